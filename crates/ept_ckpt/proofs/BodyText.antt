@@ -1,4 +1,4 @@
--- The bytes of a checkpoint, one field behind another.
+-- The bytes of a checkpoint, one field after another.
 use Rattle.std.proofs.Common.{◌≡◌, ◌∙◌, ◌++◌, ℕ, List, sym, ap, map, length}
 use Rattle.std.specs.List.{flat_map, zip}
 use Rattle.byteorder.specs.Endian.{little_bytes}
@@ -11,7 +11,7 @@ use Rattle.ept_ckpt.specs.Body.{mark_bytes, kept_bytes, precedence_bytes, source
 use Rattle.ept_ckpt.proofs.Appending.{nine_written}
 use Rattle.ept_ckpt.proofs.SourceText.{length_sources}
 
--- the body with these counts, so many of them, and these nodes
+-- the body with n sources of these counts, and these nodes
 body_with : Checkpoint → ℕ → List SourceCount → List NodeLine → List ℕ
 body_with c n counts nodes =
     mark_bytes c.version

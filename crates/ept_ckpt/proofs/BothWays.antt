@@ -19,7 +19,7 @@ pub is_body : (bytes : List ℕ) (result : Result Checkpoint CkptError) → ((i 
 is_body bytes (Ok c) fits reads = read_back bytes (facts c) fits reads
 is_body bytes (Err e) fits reads = tt
 
--- one answer
+-- equal results have equal facts
 same_facts : (a b : CheckpointFacts) → ◌≡◌ {A = Result (CheckpointFacts × List ℕ) FieldError} (Ok (a, [])) (Ok (b, [])) → a ≡ b
 same_facts a b same = ap (read_or a) same
   where
@@ -34,7 +34,7 @@ module _ (bytes : List ℕ) (c : Checkpoint) (is : bytes ≡ body (facts c)) whe
   reads : fields (length bytes) bytes ≡ Ok (facts c, [])
   reads = subst (λ (w : List ℕ). fields (length w) w ≡ Ok (facts c, [])) (sym is) (written c)
 
-  -- a body is refused for want of memory alone
+  -- a body is refused only because memory ran out
   memory_only : (e : CkptError) → (e ≢ Memory → RefusesBody bytes e) → e ≡ Memory
   memory_only Memory refused = refl
   memory_only Length refused = absurd (never_both (facts c) _ (sym reads ∙ refused (λ same. cc)))

@@ -1,4 +1,4 @@
--- Bytes that are no UTF-8 are none of the texts that a body has.
+-- Bytes that are not UTF-8 are not one of the texts of a body.
 use Rattle.std.proofs.Common.{◌≡◌, ℕ, Bool, true, false, List, refl}
 use Rattle.std.specs.Str.{is_utf8, IsUtf8}
 use Rattle.std.proofs.lemmas.Str.{IsUtf8-from_is_utf8}

@@ -13,7 +13,7 @@ use Rattle.ept_ckpt.specs.declared.checkpoint.Checkpoint.{Checkpoint}
 use Rattle.ept_ckpt.specs.Facts.{sources_of, kept_facts, precedence_of, facts}
 use Rattle.ept_ckpt.specs.Valid.{IsCheckpoint}
 
--- two lists of pairs are one where the lists that are paired are
+-- two lists of pairs are equal only if the paired lists are
 zip_same : {X Y : Type 0} (xs us : List X) (ys vs : List Y) → length ys ≡ length xs → length vs ≡ length us → zip xs ys ≡ zip us vs → (xs ≡ us) × (ys ≡ vs)
 zip_same [] [] [] [] m n e = (refl, refl)
 zip_same [] us (y ∷ ys) vs m n e = absurd (omega (arith, m))

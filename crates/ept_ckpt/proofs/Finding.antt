@@ -1,4 +1,4 @@
--- What a binary search tells of the line of a key.
+-- What the result of a binary search means for the line of a key.
 use Rattle.std.proofs.Common.{◌≡◌, ◌∙◌, ℕ, zero, suc, ◌<◌, Bool, true, false, cond, List, [], ◌∷◌, length, get_or, Some, None, refl, ap, subst, arith, inl, inr}
 use Rattle.std.specs.Prelude.{find, AllPairs}
 use Rattle.std.specs.List.Sorted.{IsBinarySearchResult}
@@ -22,7 +22,7 @@ find_at p (x ∷ xs) zero d inside passes before = ap (λ (b : Bool). cond b (So
 find_at p (x ∷ xs) (suc i) d inside passes before =
     ap (λ (b : Bool). cond b (Some x) (find p xs)) (before 0 (omega arith)) ∙ find_at p xs i d (omega (arith, inside)) passes (λ k low. before (suc k) (omega (arith, low)))
 
--- where none passes, none is found
+-- if no element passes, none is found
 find_none : {X : Type 0} (p : X → Bool) (xs : List X) → ((k : ℕ) (d : X) → k < length xs → p (get_or xs k d) ≡ false) → find p xs ≡ None
 find_none p [] none = refl
 find_none p (x ∷ xs) none = ap (λ (b : Bool). cond b (Some x) (find p xs)) (none 0 x (omega arith)) ∙ find_none p xs (λ k d inside. none (suc k) d (omega (arith, inside)))

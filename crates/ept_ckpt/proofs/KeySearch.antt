@@ -1,4 +1,4 @@
--- Which keys are among those of nodes, and what a binary search tells of it.
+-- Which keys are among those of nodes, and what the result of a binary search means for this.
 use Rattle.std.proofs.Common.{◌≡◌, ◌∙◌, ℕ, ◌+◌, ◌<◌, ◌≤◌, Bool, true, false, List, [], ◌∷◌, map, length, get_or, Result, Ok, Err, refl, sym, ap, subst, arith, inl, inr}
 use Rattle.std.specs.Prelude.{◌||◌, nat_lt, All, AllPairs, is_ok}
 use Rattle.std.specs.List.{list_any, AllWithin}
@@ -22,7 +22,7 @@ list_any-map : {X Y : Type 0} (p : Y → Bool) (f : X → Y) (xs : List X) → l
 list_any-map p f [] = refl
 list_any-map p f (x ∷ xs) = ap (λ b. p (f x) || b) (list_any-map p f xs)
 
--- what the order of two keys tells of whether they are one
+-- whether two keys are the same, by their order
 same-equal : (a b : VoxelKey) → key_cmp b a ≡ Equal → same_key a b ≡ true
 same-equal a b h = grind (arith, nat_tests)
 
@@ -35,14 +35,14 @@ same-greater a b h = grind (arith, nat_tests)
 same-deeper : (a b : VoxelKey) → b.depth < a.depth → same_key a b ≡ false
 same-deeper a b h = grind (arith, nat_tests)
 
--- against any key, the answers of `cmp` rise
+-- the results of `cmp` with any key ascend
 pub answers-rise : (nodes : List NodeLine) (key : VoxelKey) → AllPairs (λ a b. key_cmp a b ≡ Less) (keys_of nodes) → IsNonDecreasingBy (λ (line : NodeLine). ordering_index (key_cmp line.key key)) nodes
 answers-rise nodes key up =
     searchable_from_sorted key_cmp_total (λ (line : NodeLine). line.key) nodes key (λ k d low inside.
     let before : key_cmp (get_or nodes k d).key (get_or nodes (k + 1) d).key ≡ Less = ascend-at (λ (line : NodeLine). line.key) nodes k (k + 1) d (omega arith) (omega (arith, inside)) up in
     ap is_lt (key_cmp_total.antisymm (get_or nodes (k + 1) d).key (get_or nodes k d).key ∙ ap ordering_reverse before))
 
--- a search finds a key exactly where it is among the keys
+-- a search finds a key if and only if it is among the keys
 pub searched : (nodes : List NodeLine) (key : VoxelKey) (r : Result ℕ ℕ) → AllPairs (λ a b. key_cmp a b ≡ Less) (keys_of nodes) → IsSearchInRange r (length nodes) → IsBinarySearchResult (λ (line : NodeLine). key_cmp line.key key) nodes r → is_ok r ≡ is_among (keys_of nodes) key
 searched [] key (Ok i) up inside equal = absurd (omega (arith, inside))
 searched (line ∷ nodes) key (Ok i) up inside equal =
@@ -60,7 +60,7 @@ searched nodes key (Err i) up inside parted =
 pub not-below : (n m : ℕ) → m ≤ n → nat_lt n m ≡ false
 not-below n m h = grind (arith, nat_tests)
 
--- the child of a key of the greatest depth is none of the keys
+-- the child of a key of the greatest depth is not among the keys
 pub too-deep : (keys : List VoxelKey) (key : VoxelKey) (octant : ℕ) → All IsKey keys → 31 ≤ key.depth → is_among keys (child key octant) ≡ false
 unfolding child
 too-deep keys key octant known deep =
@@ -73,7 +73,7 @@ pub All-keys : (P : VoxelKey → Type 0) (nodes : List NodeLine) (n : ℕ) → l
 All-keys P nodes n whole h =
     All-map P (λ (line : NodeLine). line.key) nodes (λ k d inside. h k d (omega arith) (omega (arith, whole, inside)))
 
--- and the other way round
+-- and conversely
 pub key-at : (P : VoxelKey → Type 0) (nodes : List NodeLine) (i : ℕ) (line : NodeLine) → i < length nodes → line ≡ get_or nodes i line → All P (keys_of nodes) → P line.key
 key-at P nodes i line inside is all =
     let at : get_or (keys_of nodes) i line.key ≡ (get_or nodes i line).key = get_or-map (λ (l : NodeLine). l.key) nodes i line line.key inside in

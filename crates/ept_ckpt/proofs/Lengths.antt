@@ -1,4 +1,4 @@
--- Texts whose length has a field of 32 bits.
+-- Texts whose length fits into a field of 32 bits.
 use Rattle.std.proofs.Common.{◌≡◌, ℕ, ◌<◌, ◌^◌, true, List, length, arith}
 use Rattle.ept_config.specs.Texts.{is_path, is_srs_text}
 

@@ -1,4 +1,4 @@
--- The bytes of a node, one field behind another.
+-- The bytes of a node, one field after another.
 use Rattle.std.proofs.Common.{◌≡◌, ◌∙◌, ◌++◌, ℕ, List, [], ◌∷◌, ap}
 use Rattle.byteorder.specs.Endian.{little_bytes}
 use Rattle.ept_space.specs.VoxelKey.{VoxelKey}

@@ -1,4 +1,4 @@
--- Inputs and their counts, one pair more.
+-- Inputs and their counts, with one more pair.
 use Rattle.std.proofs.Common.{◌≡◌, ℕ, ◌+◌, ◌*◌, ◌≤◌, List, [], ◌∷◌, ◌++◌, length, fold, refl, ap, arith}
 use Rattle.std.specs.List.{All}
 use Rattle.std.proofs.lemmas.List.Sums.{sum_by-le}
@@ -28,7 +28,7 @@ sum_from sum (i ∷ inputs) (c ∷ counts) same = sum_from (sum + c.points) inpu
 pub points_of_pairs : (inputs : List Input) (counts : List SourceCount) → length counts ≡ length inputs → points_of_sources (sources_of inputs counts) ≡ total counts
 points_of_pairs inputs counts same = sum_from 0 inputs counts same
 
--- how great their number is
+-- their number is limited
 pub total_few : (counts : List SourceCount) → length counts ≤ 65535 → All (λ count. count.points ≤ most_points) counts → total counts ≤ 65535 * most_points
 total_few counts few each =
     let most = sum_by-le (λ (count : SourceCount). count.points) most_points counts (λ k d inside. let small = each k d inside in omega (arith, small)) in

@@ -14,7 +14,7 @@ use Rattle.ept_ckpt.proofs.ReadPrecedence.{mark_cut, precedence_cut}
 use Rattle.ept_ckpt.proofs.ReadSources.{source_cut}
 use Rattle.ept_ckpt.proofs.ReadNodes.{node_cut, times_cut, times_count}
 
--- nothing is read where the end is seen, or the generation judged
+-- nothing is read at the end, or when the generation is judged
 end_cut : CutsOff ⊤ end (λ _. [])
 unfolding end
 end_cut = record { cut = λ total rest left seen fit read. (same_read (tested _ _ _ read).1).1 }

@@ -34,7 +34,7 @@ code_of_letter zero most = refl
 code_of_letter (suc zero) most = refl
 code_of_letter (suc (suc code)) most = absurd (omega (arith, most))
 
--- the mask, and the code of the letter behind it
+-- the mask, and after it the code of the letter
 letter_behind : (front : List ℕ) (mask code letter : ℕ) → letter ≡ code → (front ++ (mask ∷ [])) ++ (code ∷ []) ≡ front ++ (mask ∷ letter ∷ [])
 letter_behind front mask code letter same = append_assoc front (mask ∷ []) (code ∷ []) ∙ ap (λ (n : ℕ). front ++ (mask ∷ n ∷ [])) (sym same)
 
@@ -51,7 +51,7 @@ node_cut most = record {
       (letter_behind (key_bytes key ++ little_bytes 8 count) mask code (letter_code (letter_of code)) same) last))));
 }
 
--- so many items are their bytes, one behind another
+-- n items are their bytes, one after another
 pub times_cut : {A : Type 0} {form : Reading A} {f : A → List ℕ} (n : ℕ) → CutsOff A form f → CutsOff (List A) (times n form) (flat_map f)
 times_cut {f = f} zero cuts = record { cut = λ total rest left xs fit read. all_cut (flat_map f) (uncut rest fit) refl read }
 times_cut {form = form} {f = f} (suc n) cuts = record {

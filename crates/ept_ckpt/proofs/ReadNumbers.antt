@@ -1,4 +1,4 @@
--- Bytes that are cut at the front: what is read of them, and what is left.
+-- Bytes that are cut after their first ones: what is read from the first ones, and what is left.
 use Rattle.std.proofs.Common.{◌≡◌, ◌∙◌, ◌/◌, ◌%◌, ℕ, zero, suc, ◌+◌, ◌*◌, ◌<◌, ◌≤◌, ◌^◌, Bool, true, false, List, [], ◌∷◌, ◌++◌, length, take, drop, slice_index, Result, Ok, Err, refl, sym, ap, subst, arith, append_assoc, take-append-drop, length-take}
 use Rattle.std.specs.Prelude.{ℤ, ◌&&◌, nat_le, if◌then◌else◌}
 use Rattle.std.proofs.Math.Nat.{div-div-eq-div-mul, pow-succ'}
@@ -14,7 +14,7 @@ use Rattle.ept_ckpt.specs.Fields.{Reading, go_on, bytes, number, signed, field, 
 abbrev pub HasBytes : List ℕ → Type 0
 HasBytes all = (i : ℕ) → slice_index all i < 2 ^ 8
 
--- all of the bytes are those in front, and then those that are left
+-- all bytes are the first ones, and then those that are left
 pub record Cut (all front left : List ℕ) : Type 0 where
   pub is : all ≡ front ++ left
   pub fit : HasBytes left
@@ -43,22 +43,22 @@ number_bytes (suc n) (b ∷ all) fit whole =
     rw (little_from-cons 0 n b all, low_byte b (little_number n all) (fit 0), high_bytes 0 n b (little_number n all) (fit 0))
     (ap (λ (w : List ℕ). b ∷ w) (number_bytes n all (λ i. fit (suc i)) (omega arith)))
 
--- where both of two fields are read, so is the first, and then the next
+-- if both of two fields are read, the first is read, and then the next
 pub steps : {A B Q : Type 0} (read : Result (A × List ℕ) FieldError) (next : A → List ℕ → Result (B × List ℕ) FieldError) {b : B} {left : List ℕ} → go_on read next ≡ Ok (b, left) → ((a : A) (mid : List ℕ) → read ≡ Ok (a, mid) → next a mid ≡ Ok (b, left) → Q) → Q
 steps (Ok read) next whole more = more read.0 read.1 refl whole
 steps (Err e) next whole more = absurd (cc)
 
--- what is read where a test passes
+-- what is read if a test passes
 pub tested : {A : Type 0} (test : Bool) (result : Result A FieldError) (e : FieldError) {a : A} → (if test then result else Err e) ≡ Ok a → (test ≡ true) × (result ≡ Ok a)
 tested true result e is = (refl, is)
 tested false result e is = absurd (cc)
 
--- what is left of bytes has bytes
+-- what is left of bytes is bytes too
 pub right_bytes : (front left : List ℕ) → HasBytes (front ++ left) → HasBytes left
 right_bytes [] left fit = fit
 right_bytes (b ∷ front) left fit = right_bytes front left (λ i. fit (suc i))
 
--- all that is read by a form is the bytes of its value, in front of those that are left
+-- all that is read by a form is the bytes of its value, before those that are left
 pub record CutsOff (A : Type 0) (form : Reading A) (f : A → List ℕ) : Type 0 where
   pub cut : (total : ℕ) (rest left : List ℕ) (a : A) → HasBytes rest → form total rest ≡ Ok (a, left) → rest ≡ f a ++ left
 
@@ -75,13 +75,13 @@ cut_by {f} total {all} {front} {rest} {mid} {a} cuts so_far read =
       fit = right_bytes (f a) mid (subst HasBytes next so_far.fit);
     }
 
--- what was read is one value, and one rest
+-- what was read has one value, and one rest
 pub same_read : {A : Type 0} {a b : A} {mid left : List ℕ} → (let r : Result (A × List ℕ) FieldError = Ok (a, mid) in r) ≡ Ok (b, left) → (a ≡ b) × (mid ≡ left)
 same_read {A} {a} {b} {mid} {left} is =
     let pair : (let p : A × List ℕ = (a, mid) in p) ≡ (b, left) = cc in
     (ap (λ (p : A × List ℕ). p.0) pair, ap (λ (p : A × List ℕ). p.1) pair)
 
--- so many bytes are cut off
+-- the `width` bytes are cut off
 pub bytes_read : (width total : ℕ) (rest left x : List ℕ) → bytes width total rest ≡ Ok (x, left) → rest ≡ x ++ left
 unfolding bytes
 bytes_read width total rest left x read =
@@ -116,7 +116,7 @@ byte_read total rest left n fit read =
     let low : n % 256 ≡ n = omega arith in
     number_read 1 total rest left n fit read ∙ ap (λ (b : ℕ). b ∷ left) low
 
--- so many bytes are read
+-- `width` bytes are read
 pub bytes_length : (width total : ℕ) (rest left x : List ℕ) → bytes width total rest ≡ Ok (x, left) → length x ≡ width
 unfolding bytes
 bytes_length width total rest left x read =

@@ -27,7 +27,7 @@ mark_is V3 front eight passed =
     let same : mark_bytes V3 ≡ take 8 front = (bytes_eq-Decides (mark_bytes V3) (take 8 front)).0 passed in
     sym (same ∙ take_all 8 front (omega (arith, eight)))
 
--- the version of these whose mark the bytes begin with, read
+-- the version among these whose mark the bytes begin with, as it is read
 abbrev version_read : List ℕ → List BodyVersion → Reading BodyVersion
 version_read front versions = known error.Version (find (λ version. starts_with nat_eq front (mark_bytes version)) versions)
 

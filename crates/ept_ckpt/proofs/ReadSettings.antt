@@ -25,7 +25,7 @@ pub between_cut : (low high : ℤ) → CutsOff ℤ (between low high) (λ z. lit
 unfolding between
 between_cut low high = field_cut _ i32_cut
 
--- three numbers, one behind another
+-- three numbers, one after another
 in_order : (a b c : List ℕ) → (a ++ b) ++ c ≡ a ++ (b ++ (c ++ []))
 in_order a b c = rw (append-nil c) (append_assoc a b c)
 
@@ -69,14 +69,14 @@ pub srs_text_cut : CutsOff (List ℕ) srs_text text_bytes
 unfolding srs_text
 srs_text_cut = text_cut 0 65536 is_srs_text
 
--- what is there is read, and else nothing
+-- the value is read if it is there, otherwise nothing is read
 pub optional_cut : {A : Type 0} {form : Reading A} {f : A → List ℕ} (there : Bool) → CutsOff A form f → CutsOff (Option A) (optional there form) (body.optional f)
 optional_cut {f = f} false cuts = record { cut = λ total rest left a fit read. all_cut (body.optional f) (uncut rest fit) refl read }
 optional_cut {f = f} true cuts = record {
   cut = λ total rest left a fit read. steps _ _ read (λ x m1 r1 last. all_cut (body.optional f) (cut_by total cuts (uncut rest fit) r1) refl last);
 }
 
--- the flag of what was read is 1 exactly where it was there
+-- the flag of what was read is 1 if and only if it was there
 flag_tells : {A : Type 0} (form : Reading A) (there : Bool) (total : ℕ) (rest left : List ℕ) (a : Option A) → optional there form total rest ≡ Ok (a, left) → flag a ≡ (if there then 1 else 0)
 flag_tells form false total rest left a read = ap flag (sym (same_read read).0)
 flag_tells form true total rest left a read = steps (form total rest) _ read (λ x mid first last. ap flag (sym (same_read last).0))

@@ -27,7 +27,7 @@ input_bytes input =
 abbrev pub count_bytes : SourceCount → List ℕ
 count_bytes count = little_bytes 8 count.points ++ (flag count.extent ∷ []) ++ body.optional bounds_bytes count.extent
 
--- a flag behind other bytes, and bytes behind it
+-- a flag after other bytes, and bytes after it
 flag_between : (n m : ℕ) (front back : List ℕ) → n ≡ m → front ++ (n ∷ []) ++ back ≡ front ++ (m ∷ []) ++ back
 flag_between n m front back same = rw same refl
 
@@ -64,7 +64,7 @@ count_cut most bounds = record {
       (flag_between there (flag extent) (little_bytes 8 points) (body.optional bounds_bytes extent) told) last)));
 }
 
--- a count behind an input
+-- a count after an input
 count_behind : (input a b c : List ℕ) → input ++ ((a ++ b) ++ c) ≡ ((input ++ a) ++ b) ++ c
 count_behind input a b c = simp append_assoc
 

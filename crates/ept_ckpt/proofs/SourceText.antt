@@ -1,4 +1,4 @@
--- The bytes of an input and its count, one field behind another.
+-- The bytes of an input and its count, one field after another.
 use Rattle.std.proofs.Common.{◌≡◌, ◌∙◌, ◌++◌, ◌+◌, ◌<◌, ℕ, List, [], ◌∷◌, sym, ap, arith, map, take, length, get_or, Some}
 use Rattle.std.specs.List.{flat_map, zip, slice_get}
 use Rattle.std.proofs.lemmas.List.{length-map}
@@ -24,7 +24,7 @@ source_written source expected there start t0 t1 t2 t3 t4 t5 t6 end expected_is 
     eight_written start (text_bytes source.0.path) (source.0.scale ∷ []) (i64_bytes source.0.shift) (flag source.0.expect ∷ []) (optional (λ bytes. bytes) source.0.expect) (little_bytes 8 source.1.points) (flag source.1.extent ∷ []) (optional bounds_bytes source.1.extent)
     t0 t1 t2 t3 t4 t5 t6 end e0 e1 e2 (byte _ _ t2 t3 expected_is e3) e4 e5 (byte _ _ t5 t6 there_is e6) e7
 
--- as many inputs as counts
+-- the number of pairs is that of the inputs, if there is a count for each input
 pub length_sources : (inputs : List Input) (counts : List SourceCount) → length counts ≡ length inputs → length (zip (map input_facts inputs) counts) ≡ length counts
 length_sources inputs counts same = omega (arith, length-zip (map input_facts inputs) counts, length-map inputs input_facts)
 
@@ -33,7 +33,7 @@ source_at inputs counts k input d same inside is =
     ap (λ (a : InputFacts). let s : Source = (a, get_or counts k d) in s) (sym (get_or-map input_facts inputs k input ∙ ap input_facts (get_or_from_slice_get inputs k input input is)))
     ∙ sym (get_or-zip (map input_facts inputs) counts k (input_facts input, d) (omega (arith, length-map inputs input_facts, same, inside)) inside)
 
--- one more input, with its count, behind those before it
+-- one more input, with its count, after those before it
 pub next_source : (inputs : List Input) (counts : List SourceCount) (k : ℕ) (input : Input) (d : SourceCount) (start before after : List ℕ) → length counts ≡ length inputs → k < length counts → slice_get inputs k ≡ Some input
     → before ≡ start ++ flat_map source_bytes (take k (zip (map input_facts inputs) counts)) → after ≡ before ++ source_bytes (input_facts input, get_or counts k d) → after ≡ start ++ flat_map source_bytes (take (k + 1) (zip (map input_facts inputs) counts))
 next_source inputs counts k input d start before after same inside is so_far then_source =

@@ -64,7 +64,7 @@ ripe_written : (total generation most : ℕ) (rest : List ℕ) → 1 ≤ generat
 unfolding ripe
 ripe_written total generation most rest low high = rw (le-leb 1 generation low, le-leb generation most high) refl
 
--- ---- how great the numbers are
+-- ---- how large the numbers are
 
 points_few : (bounds : Bounds) (counts : List SourceCount) → length counts ≤ 65535 → All (IsCount bounds) counts → total counts < 2 ^ 56
 points_few bounds counts few is =
@@ -82,7 +82,7 @@ spare_few V3 = omega arith
 generation_few : (c : Checkpoint) → c.generation < 2 ^ 64
 generation_few c = omega (arith, inserted_few c, c.is_checkpoint.generation_most, c.kept.layout.inputs_most, spare_few c.version)
 
--- as many inputs as the configuration has
+-- the number of sources is that of the inputs
 sources_number : (inputs : List Input) (counts : List SourceCount) → length counts ≡ length inputs → length (sources_of inputs counts) ≡ length inputs
 unfolding sources_of
 sources_number inputs counts same = length_sources inputs counts same ∙ same

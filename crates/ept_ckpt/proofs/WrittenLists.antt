@@ -1,11 +1,11 @@
--- So many of a form, written one behind another, read back.
+-- Values of one form, written one after another, read back.
 use Rattle.std.proofs.Common.{◌≡◌, ℕ, List, [], ◌∷◌, ◌++◌, length, Ok, refl, append_assoc}
 use Rattle.std.specs.List.{All, flat_map}
 use Rattle.std.proofs.lemmas.List.Elements.{All-head, All-tail}
 use Rattle.ept_ckpt.specs.Fields.{Reading, times}
 use Rattle.ept_ckpt.proofs.WrittenNumbers.{read_then}
 
--- bytes one behind another, in front of the rest
+-- bytes one after another, before the rest
 pub three_then : (a b c rest : List ℕ) → ((a ++ b) ++ c) ++ rest ≡ a ++ (b ++ (c ++ rest))
 three_then a b c rest = simp append_assoc
 
@@ -18,7 +18,7 @@ eight_then a b c d e f g h rest = simp append_assoc
 pub nine_then : (a b c d e f g h i rest : List ℕ) → ((((((((a ++ b) ++ c) ++ d) ++ e) ++ f) ++ g) ++ h) ++ i) ++ rest ≡ a ++ (b ++ (c ++ (d ++ (e ++ (f ++ (g ++ (h ++ (i ++ rest))))))))
 nine_then a b c d e f g h i rest = simp append_assoc
 
--- in front of any bytes, the bytes of this value are read as it
+-- the bytes of this value, with any bytes after them, are read as this value
 abbrev pub ReadsBack : {A : Type 0} → Reading A → (A → List ℕ) → ℕ → A → Type 0
 ReadsBack form written total a = (rest : List ℕ) → form total (written a ++ rest) ≡ Ok (a, rest)
 

@@ -9,7 +9,7 @@ use Rattle.byteorder.specs.Numbers.{length-bytes_low_first, little_number-reads_
 use Rattle.ept_ckpt.specs.declared.field_error.FieldError.{FieldError}
 use Rattle.ept_ckpt.specs.Fields.{Reading, go_on, bytes, number, signed, field, within}
 
--- what is read goes on with the next field
+-- what is read continues with the next field
 pub read_then : {A B : Type 0} {first : Result (A × List ℕ) FieldError} {a : A} {left : List ℕ} {last : Result (B × List ℕ) FieldError} (next : A → List ℕ → Result (B × List ℕ) FieldError) → first ≡ Ok (a, left) → next a left ≡ last → go_on first next ≡ last
 read_then next read more = rw read more
 

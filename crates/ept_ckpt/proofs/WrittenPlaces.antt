@@ -15,7 +15,7 @@ use Rattle.ept_ckpt.specs.Fields.{signed, three}
 use Rattle.ept_ckpt.specs.Forms.{near, between, corner, box_within, whole}
 use Rattle.ept_ckpt.proofs.WrittenNumbers.{read_then, field_read, i32_written, i64_written}
 
--- on each axis the one is at most the other
+-- on each axis `low` is at most `high`
 abbrev AreOrdered : Place → Place → Type 0
 AreOrdered low high = HasPlace (record { min = low; max = high })
 
@@ -64,7 +64,7 @@ box_written total outer box rest min_fits max_fits above under ordered below =
     (read_then _ (corner_written total outer.min outer.max box.min (i32_bytes box.max ++ rest) min_fits above under)
     (read_then _ (corner_written total box.min outer.max box.max rest max_fits ordered below) refl))
 
--- bounds of coordinates of 32 bits are within all places that there are
+-- bounds with coordinates of 32 bits are within the bounds of all places
 whole_above : (xs : List ℤ) → AreCoordinates xs → AreOrdered whole.min xs
 whole_above xs fit = record { x_ordered = omega (arith, ints, fit.x); y_ordered = omega (arith, ints, fit.y); z_ordered = omega (arith, ints, fit.z) }
 

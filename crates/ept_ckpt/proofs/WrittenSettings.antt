@@ -1,4 +1,4 @@
--- What is kept of the configuration, but for the inputs, is written and reads back.
+-- What is kept of the configuration except the inputs is written and reads back.
 use Rattle.std.proofs.Common.{◌≡◌, ℕ, ◌^◌, List, ◌∷◌, ◌++◌, Ok, refl, arith}
 use Rattle.byteorder.specs.Endian.{little_bytes}
 use Rattle.ept_config.specs.declared.kept.Kept.{Kept}

@@ -42,7 +42,7 @@ input_written total scale input rest most =
 
 -- ---- counts
 
--- an extent is there exactly where there are points
+-- an extent is there if and only if there are points
 there_is : (points : ℕ) (extent : Option Bounds) → IsSome extent ↔ (0 < points) → (flag extent == (if points == 0 then 0 else 1)) ≡ true
 there_is zero None there = refl
 there_is zero (Some extent) there = absurd (omega (arith, there.0 refl))

@@ -42,7 +42,7 @@ srs_text_written : (total : ℕ) (xs rest : List ℕ) → is_srs_text xs ≡ tru
 unfolding srs_text
 srs_text_written total xs rest is = text_written total 0 65536 is_srs_text xs rest (omega arith) (omega arith) (srs_text_most xs is) is
 
--- what is there, or nothing
+-- the value, or nothing
 pub optional_written : {A : Type 0} (total : ℕ) (form : Reading A) (written : A → List ℕ) (value : Option A) (there : Bool) (rest : List ℕ) → there ≡ (flag value == 1) → ((a : A) → value ≡ Some a → form total (written a ++ rest) ≡ Ok (a, rest)) → optional there form total (body.optional written value ++ rest) ≡ Ok (value, rest)
 optional_written total form written None there rest is each = rw is refl
 optional_written total form written (Some a) there rest is each = rw (is, each a refl) refl
@@ -50,7 +50,7 @@ optional_written total form written (Some a) there rest is each = rw (is, each a
 srs_texts_written : (total : ℕ) (value : Option (List ℕ)) (there : Bool) (rest : List ℕ) → there ≡ (flag value == 1) → ForSome value (λ xs. is_srs_text xs ≡ true) → optional there srs_text total (body.optional text_bytes value ++ rest) ≡ Ok (value, rest)
 srs_texts_written total value there rest is each = optional_written total srs_text text_bytes value there rest is (λ xs some. srs_text_written total xs rest (each xs some))
 
--- a bit for each of four
+-- a bit for each of four texts
 pub flag-most : {A : Type 0} (value : Option A) → flag value ≤ 1
 flag-most None = omega arith
 flag-most (Some a) = omega arith

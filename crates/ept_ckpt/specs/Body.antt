@@ -28,12 +28,12 @@ bounds_bytes bounds = i32_bytes bounds.min ++ i32_bytes bounds.max
 unfoldable pub text_bytes : List ℕ → List ℕ
 text_bytes text = little_bytes 4 (length text) ++ text
 
--- the bytes of what is there, or none
+-- the bytes of the value, or none if there is no value
 abbrev pub optional : {A : Type 0} → (A → List ℕ) → Option A → List ℕ
 optional bytes None = []
 optional bytes (Some a) = bytes a
 
--- 1 where it is there, and else 0
+-- 1 if there is a value, otherwise 0
 abbrev pub flag : {A : Type 0} → Option A → ℕ
 flag None = 0
 flag (Some a) = 1
@@ -47,7 +47,7 @@ srs_bytes srs =
     ++ optional text_bytes srs.vertical
     ++ optional text_bytes srs.wkt
 
--- what is kept of the configuration, but for the inputs
+-- what is kept of the configuration except the inputs
 unfoldable pub kept_bytes : KeptFacts → List ℕ
 kept_bytes kept =
     (kept.scale ∷ kept.s ∷ kept.max_depth ∷ kept.step ∷ [])
@@ -68,12 +68,12 @@ source_bytes source =
     ++ (flag source.1.extent ∷ [])
     ++ optional bounds_bytes source.1.extent
 
--- which version of a tile is named
+-- the code of a version of a tile
 abbrev pub letter_code : Letter → ℕ
 letter_code A = 0
 letter_code B = 1
 
--- a node: its key, how many points it has, which octants go down, and where its tile is
+-- a node: its key, how many points it has, which octants have a child, and which version its tile is
 unfoldable pub node_bytes : NodeLine → List ℕ
 node_bytes line =
     (line.key.depth ∷ [])
@@ -87,7 +87,7 @@ node_bytes line =
 unfoldable pub mark_bytes : BodyVersion → List ℕ
 mark_bytes version = codes "EPTW" ++ little_bytes 4 (number_of version)
 
--- 32 bytes of the classes that come first, and 1 if withheld points come last; the versions before 3 have neither
+-- 32 bytes of the classes that come first, and 1 if withheld points come last. The versions before 3 have neither.
 abbrev pub precedence_bytes : BodyVersion → PrecedenceFacts → List ℕ
 precedence_bytes V1 precedence = []
 precedence_bytes V2 precedence = []

@@ -1,4 +1,4 @@
--- What all fields of a body keep, before the nodes are judged together.
+-- What holds of all fields of a body, before the nodes are judged together.
 use Rattle.std.specs.Prelude.{◌≡◌, ◌≢◌, ℕ, ◌+◌, ◌<◌, ◌≤◌, ◌^◌, List, length, All}
 use Rattle.ept_config.specs.Counts.{total, IsCount}
 use Rattle.ept_ckpt.specs.declared.version.BodyVersion.{BodyVersion}

@@ -13,7 +13,7 @@ use Rattle.ept_ckpt.specs.declared.version.BodyVersion.{BodyVersion}
 use Rattle.ept_ckpt.specs.declared.draft.Draft.{Draft}
 use Rattle.ept_ckpt.specs.declared.checkpoint.Checkpoint.{Checkpoint}
 
--- what is kept of the configuration, but for the inputs
+-- what is kept of the configuration except the inputs
 pub record KeptFacts : Type 0 where
   pub scale : ℕ
   pub s : ℕ

@@ -21,15 +21,15 @@ use Rattle.ept_ckpt.specs.Body.{mark_bytes}
 use Rattle.ept_ckpt.specs.Valid.{deepest}
 use Rattle.ept_ckpt.specs.Fields.{Reading, ◌>>=◌, give, unless, known, bytes, number, signed, field, within, three, optional, times}
 
--- a whole number of 64 bits, at most this far from 0
+-- a whole number of 64 bits, whose absolute value is at most `most`
 unfoldable pub near : ℕ → Reading ℤ
 near most = field (λ z. nat_le (unsigned_abs z) most) (signed w64 8)
 
--- a coordinate of 32 bits, from one to another
+-- a coordinate of 32 bits, from `low` to `high`
 unfoldable pub between : ℤ → ℤ → Reading ℤ
 between low high = field (λ z. int_le low z && int_le z high) (signed w32 4)
 
--- a place from one to another on each axis
+-- a place from `low` to `high` on each axis
 unfoldable pub corner : List ℤ → List ℤ → Reading (List ℤ)
 corner low high = do
   x ← between (coordinate low 0) (coordinate high 0)
@@ -37,21 +37,21 @@ corner low high = do
   z ← between (coordinate low 2) (coordinate high 2)
   give (x ∷ y ∷ z ∷ [])
 
--- all places that there are: each coordinate is of 32 bits
+-- the bounds of all places: each coordinate has 32 bits
 abbrev pub whole : Bounds
 whole = record {
   min = negsuc (2 ^ 31 - 1) ∷ negsuc (2 ^ 31 - 1) ∷ negsuc (2 ^ 31 - 1) ∷ [];
   max = pos (2 ^ 31 - 1) ∷ pos (2 ^ 31 - 1) ∷ pos (2 ^ 31 - 1) ∷ [];
 }
 
--- bounds within others: the minimum, and then the maximum, on no axis below it
+-- bounds within others: the minimum, and then the maximum, which is below it on no axis
 unfoldable pub box_within : Bounds → Reading Bounds
 box_within outer = do
   min ← corner outer.min outer.max
   max ← corner min outer.max
   give (record { min = min; max = max })
 
--- a text of such a length that passes the test
+-- a text that has from `least` to `most` bytes and passes the test
 unfoldable pub text : ℕ → ℕ → (List ℕ → Bool) → Reading (List ℕ)
 text least most test = do
   width ← within least most (number 4)
@@ -70,7 +70,7 @@ srs_form = do
   wkt ← optional (bit_at there 3 == 1) srs_text
   give (record { authority = authority; horizontal = horizontal; vertical = vertical; wkt = wkt })
 
--- what is kept of the configuration, but for the inputs
+-- what is kept of the configuration except the inputs
 unfoldable pub kept_form : Reading KeptFacts
 kept_form = do
   scale ← within 0 9 (number 1)
@@ -101,7 +101,7 @@ input_form scale = do
   expect ← optional (expected == 1) (bytes 48)
   give (record { path = path; scale = its_scale; shift = shift; expect = expect })
 
--- an extent is there exactly where there are points
+-- an extent is there if and only if there are points
 unfoldable pub count_form : ℕ → Bounds → Reading SourceCount
 count_form most bounds = do
   points ← within 0 most (number 8)
@@ -115,7 +115,7 @@ source_form most scale bounds = do
   count ← count_form most bounds
   give (input, count)
 
--- an index on an axis, among those of a depth
+-- an index on an axis, below the number of nodes of a depth on that axis
 unfoldable pub index : ℕ → Reading ℕ
 index depth = within 0 (2 ^ depth - 1) (number 4)
 
@@ -149,7 +149,7 @@ mark = do
   front ← bytes 8
   known Version (version_of front)
 
--- no class comes first, and withheld points are as others
+-- no class comes first, and withheld points do not come last
 abbrev pub no_precedence : PrecedenceFacts
 no_precedence = record { first = no_class.bytes; withheld_last = false }
 
@@ -170,12 +170,12 @@ points_of_sources sources = sum_by (λ source. source.1.points) sources
 abbrev pub deepest_of : KeptFacts → ℕ
 deepest_of kept = deepest kept.bounds kept.s kept.max_depth
 
--- behind the last field there is nothing
+-- no bytes are left after the last field
 unfoldable pub end : Reading ⊤
 end total rest = if length rest == 0 then Ok (tt, rest) else Err Length
 
--- each commit has more points or more inputs than the one before it, but for one that takes over a checkpoint of
--- version 1; the generation, which begins at byte 8, is judged at the end
+-- Each commit has more points or more inputs than the one before it, except one that takes over a checkpoint of version
+-- 1. The generation begins at byte 8. It is judged at the end.
 unfoldable pub ripe : ℕ → ℕ → Reading ⊤
 ripe generation most = unless (Field 8) (nat_le 1 generation && nat_le generation most)
 

@@ -21,7 +21,7 @@ abbrev pub TellsChildren : List VoxelKey → NodeLine → Type 0
 TellsChildren keys line =
     (octant : ℕ) → octant < 8 → (bit_at line.mask octant == 1) ≡ is_among keys (child line.key octant)
 
--- The keys ascend, the root is one of them, and so is the parent of each other; the masks tell the children.
+-- The keys ascend, the root is one of them, and each other node has its parent. The masks mark exactly the children.
 pub record AreWholeOctree (nodes : List NodeLine) : Type 0 where
   pub ascend : AreAscending (keys_of nodes)
   pub rooted : is_among (keys_of nodes) root ≡ true
@@ -32,7 +32,7 @@ pub record AreWholeOctree (nodes : List NodeLine) : Type 0 where
 abbrev pub points_in : List NodeLine → ℕ
 points_in nodes = sum_by (λ line. line.count) nodes
 
--- the nodes are a whole octree of so many points
+-- the nodes are a whole octree of this number of points
 pub record AreNodesOf (points : ℕ) (nodes : List NodeLine) : Type 0 where
   pub octree : AreWholeOctree nodes
   pub counted : points_in nodes ≡ points

@@ -8,20 +8,20 @@ use Rattle.ept_ckpt.specs.Facts.{CheckpointFacts}
 use Rattle.ept_ckpt.specs.Octree.{AreNodesOf}
 use Rattle.ept_ckpt.specs.Forms.{fields}
 
--- what the refusal of a field is told as
+-- the error for the refusal of a field
 abbrev pub of_field : FieldError → CkptError
 of_field field.Length = Length
 of_field field.Version = Version
 of_field (field.Field at) = Field at
 of_field field.Memory = Memory
 
--- each field is within its range, but the nodes are no whole octree of the points that are inserted
+-- each field is within its range, but the nodes are no whole octree of the inserted points
 pub record HasNoOctree (bytes : List ℕ) : Type 0 where
   pub read : CheckpointFacts
   pub reads : fields (length bytes) bytes ≡ Ok (read, [])
   pub no_octree : ¬ AreNodesOf read.inserted read.nodes
 
--- the first fault in the order of the fields, and at last that of the octree
+-- the first fault in the order of the fields, and after all fields that of the octree
 abbrev pub RefusesBody : List ℕ → CkptError → Type 0
 RefusesBody bytes Length = fields (length bytes) bytes ≡ Err field.Length
 RefusesBody bytes Version = fields (length bytes) bytes ≡ Err field.Version

@@ -1,4 +1,4 @@
--- What is kept of the configuration keeps, but for the inputs.
+-- The ranges of what is kept of the configuration except the inputs.
 use Rattle.std.specs.Prelude.{ℕ, ℤ, ◌≤◌, ◌^◌, List}
 use Rattle.ept_space.specs.declared.bounds.Bounds.{Bounds}
 use Rattle.ept_config.specs.InputRanges.{AreThreeWithin}

@@ -1,4 +1,4 @@
--- Which checkpoints there are.
+-- What each checkpoint satisfies.
 use Rattle.std.specs.Prelude.{◌≡◌, ◌≢◌, ℕ, ◌+◌, ◌<◌, ◌≤◌, ◌^◌, Bool, false, List, length, All}
 use Rattle.std.specs.Option.{ForSome}
 use Rattle.ept_class.specs.declared.class_set.ClassSet.{ClassSet}
@@ -16,7 +16,7 @@ use Rattle.ept_ckpt.specs.declared.node_line.NodeLine.{NodeLine}
 use Rattle.ept_ckpt.specs.Versions.{most_points_of, spare_of}
 use Rattle.ept_ckpt.specs.Octree.{AreNodesOf}
 
--- the numbers of an extent that is there are of 32 bits, three at each end
+-- if there is an extent, its numbers have 32 bits, three at each end
 abbrev pub ExtentInRange : SourceCount → Type 0
 ExtentInRange count = ForSome count.extent BoundsInRange
 
@@ -29,11 +29,12 @@ pub record IsNode (most : ℕ) (line : NodeLine) : Type 0 where
 abbrev pub deepest : Bounds → ℕ → ℕ → ℕ
 deepest bounds s max_depth = (cube_of bounds s max_depth).depth
 
--- no class comes first, and withheld points are as others
+-- no class comes first, and withheld points do not come last
 abbrev pub IsPlain : ClassSet → Bool → Type 0
 IsPlain first withheld_last = (has_member first ≡ false) × (withheld_last ≡ false)
 
--- What each checkpoint keeps: a count for each input, no more points inserted than there are, and the nodes of these.
+-- Each checkpoint has a count for each input. The number of inserted points is at most that of all points. The nodes
+-- are a whole octree of the inserted points.
 pub record IsCheckpoint (version : BodyVersion) (generation : ℕ) (kept : Kept) (counts : List SourceCount) (inserted : ℕ) (nodes : List NodeLine) : Type 0 where
   pub each : length counts ≡ length kept.inputs
   pub few : All (λ count. count.points ≤ most_points_of version) counts

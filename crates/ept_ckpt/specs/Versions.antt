@@ -23,7 +23,8 @@ most_points_of V1 = 2 ^ 32 - 1
 most_points_of V2 = most_points
 most_points_of V3 = most_points
 
--- how many commits there may be with no more points and inputs than the one before: one, that of a checkpoint of version 1 taken over
+-- How many commits there may be that add no points or inputs to the one before: one, which takes over a checkpoint of
+-- version 1.
 abbrev pub spare_of : BodyVersion → ℕ
 spare_of V1 = 0
 spare_of V2 = 1

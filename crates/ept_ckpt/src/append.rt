@@ -1,4 +1,4 @@
-//! Numbers, texts and bounds as bytes behind others.
+//! Numbers, texts and bounds, as bytes that are appended to others.
 
 ghost use Rattle.std.specs.Prelude.{◌≡◌, ◌<◌, ◌≤◌, ◌^◌, ◌++◌, ◌∷◌, [], length, true, OnOk};
 ghost use Rattle.std.specs.Option.{ForSome};
@@ -103,7 +103,7 @@ pub(crate) fn append_path(out: &mut Vec<u8>, path: &Text) -> Result<(), Memory>
     append_text(out, path.as_str())
 }
 
-/// Appends a text of a spatial reference, where it is there.
+/// Appends a text of a spatial reference, if there is one.
 pub(crate) fn append_srs_text(out: &mut Vec<u8>, text: &Option<Text>) -> Result<(), Memory>
     requires { ForSome text.now (λ text. is_srs_text text ≡ true) }
     ensures { OnOk result (out.new.items ≡ out.old.items ++ optional text_bytes text.now) }
@@ -114,7 +114,7 @@ pub(crate) fn append_srs_text(out: &mut Vec<u8>, text: &Option<Text>) -> Result<
     Ok(())
 }
 
-/// 1 where it is there, and else 0.
+/// 1 if there is a value, otherwise 0.
 pub(crate) fn flag<T>(value: &Option<T>) -> u8
     ensures flag { result ≡ flag value.now }
     ensures most { result ≤ 1 }

@@ -12,7 +12,7 @@ use ept_config::bounds_known;
 use ept_space::Bounds;
 
 impl<'a> Cursor<'a> {
-    /// The place in the next bytes, which is from one place to another on each axis.
+    /// The place in the next bytes, which is between `low` and `high` on each axis.
     #[tactic(auto, unfolding(crate::specs::Forms::corner))]
     fn corner(&mut self, low: &[i32; 3], high: &[i32; 3]) -> Result<[i32; 3], FieldError>
         ensures reads { Reads (corner low.now high.now) self.old self.new result }
@@ -25,7 +25,7 @@ impl<'a> Cursor<'a> {
         Ok([x, y, z])
     }
 
-    /// The bounds in the next bytes, which lie within others: the minimum, and then the maximum.
+    /// The bounds in the next bytes, which lie within `outer`: the minimum, and then the maximum.
     #[tactic(auto, unfolding(crate::specs::Forms::box_within))]
     pub(crate) fn box_within(&mut self, outer: &Bounds) -> Result<Bounds, FieldError>
         ensures reads { Reads (box_within outer.now) self.old self.new result }

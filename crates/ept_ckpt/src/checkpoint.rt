@@ -10,20 +10,19 @@ use ept_point::List;
 
 /// How far a build has come: the first points of its inputs are inserted, and their nodes are in files.
 ///
-/// There is a count for each input. The nodes are a whole octree of the points that are inserted, in the
-/// order of their keys.
+/// There is a count for each input. The nodes are a whole octree of the inserted points, in the order of their keys.
 #[derive(Debug, Drop)]
 pub struct Checkpoint {
     /// The version of its body.
     pub version: BodyVersion,
-    /// How many commits there were, this one included: at most one for each inserted point and each input,
-    /// and from version 2 on one more, which took over a checkpoint of version 1.
+    /// The number of commits, this one included. It is at most the number of inserted points and inputs together. From
+    /// version 2 on it may be one more, for the commit that took over a checkpoint of version 1.
     pub generation: u64,
     /// What the output depends on.
     pub kept: Kept,
     /// What was found of each input.
     pub counts: List<SourceCount>,
-    /// How many of the inputs' points are inserted, the first in order.
+    /// How many of the inputs' points are inserted: the first ones in order.
     pub inserted: u64,
     /// The nodes, in the order of their keys.
     pub nodes: List<NodeLine>,

@@ -7,13 +7,13 @@ use crate::field_error::FieldError;
 /// Why bytes are no body of a checkpoint.
 #[derive(Clone, Copy, Debug, PartialEq, Eq)]
 pub enum CkptError {
-    /// The bytes end within a field, or go on behind the last one.
+    /// The bytes end within a field, or continue after the last one.
     Length,
     /// The first bytes are not those of a version of the format.
     Version,
     /// The field that begins at this byte, from 0, is out of its range.
     Field { at: u64 },
-    /// The nodes are no whole octree of so many points.
+    /// The nodes are no whole octree of the number of points that the body states as inserted.
     Tree,
     /// Memory ran out.
     Memory,

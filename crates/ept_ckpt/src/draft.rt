@@ -10,7 +10,7 @@ use crate::sources::Sources;
 use crate::version::BodyVersion;
 use ept_point::List;
 
-/// What the fields of a body tell, before the nodes are judged together.
+/// The values of all fields of a body, before the nodes are judged together.
 #[derive(Drop)]
 pub(crate) struct Draft {
     pub(crate) version: BodyVersion,

@@ -49,7 +49,7 @@ impl<'a> Cursor<'a> {
         Ok(())
     }
 
-    /// The judgement of the generation, which stands between 1 and this.
+    /// Judges the generation, which has to be between 1 and `most`.
     #[tactic(auto, unfolding(crate::specs::Forms::ripe))]
     fn ripe(&mut self, generation: u64, most: u64) -> Result<(), FieldError>
         ensures reads { ReadsAs (ripe generation most) (λ _. tt) self.old self.new result }

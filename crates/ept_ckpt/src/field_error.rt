@@ -8,7 +8,7 @@ use std::alloc::{AllocError, AllocFailed};
 /// Why a field of a body can't be read.
 #[derive(Clone, Copy, Debug, PartialEq, Eq)]
 pub(crate) enum FieldError {
-    /// The bytes end within a field, or go on behind the last one.
+    /// The bytes end within a field, or continue after the last one.
     Length,
     /// The first bytes are not those of a version of the format.
     Version,

@@ -12,7 +12,7 @@ use crate::field_error::FieldError;
 use byteorder::{ByteOrder, LittleEndian};
 
 impl<'a> Cursor<'a> {
-    /// Where the cursor stands, in bytes from the front of the body.
+    /// The place of the cursor, in bytes from the start of the body.
     pub(crate) fn place(&self) -> u64
         ensures { result ≡ self.now.total - length self.now.rest.now }
     {
@@ -36,7 +36,7 @@ impl<'a> Cursor<'a> {
         Ok(front)
     }
 
-    /// The number in the next bytes, of which there are 1 to 8.
+    /// The number in the next `width` bytes, which are 1 to 8.
     #[tactic(auto, unfolding(crate::specs::Fields::number))]
     pub(crate) fn number(&mut self, width: usize) -> Result<u64, FieldError>
         requires some { 1 ≤ width }
@@ -98,7 +98,7 @@ impl<'a> Cursor<'a> {
         Ok(n)
     }
 
-    /// The signed number in the next 8 bytes, which is at most `most` from 0.
+    /// The signed number in the next 8 bytes, whose absolute value is at most `most`.
     #[tactic(auto, unfolding(crate::specs::Forms::near))]
     pub(crate) fn near(&mut self, most: u64) -> Result<i64, FieldError>
         ensures reads { Reads (near most) self.old self.new result }
@@ -128,7 +128,7 @@ impl<'a> Cursor<'a> {
     }
 }
 
-// The number in the first bytes, of which there are 1 to 8.
+// The number in the first `width` bytes, which are 1 to 8.
 fn number_of(bytes: &[u8], width: usize) -> u64
     requires some { 1 ≤ width }
     requires few { width ≤ 8 }

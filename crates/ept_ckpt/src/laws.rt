@@ -1,8 +1,8 @@
-//! The laws of checkpoints, each on the contract of a function that does nothing.
+//! The laws of checkpoints. Each is the contract of a function that does nothing.
 
 ghost use Rattle.ept_ckpt.specs.Laws.{BodyOnce, CheckpointByFacts};
 
-/// One body has one checkpoint, and the facts of a checkpoint leave nothing out.
+/// A body is that of one checkpoint only, and two checkpoints with the same facts are the same.
 pub fn body_once_law()
     ensures once { BodyOnce }
     ensures facts { CheckpointByFacts }

@@ -1,6 +1,6 @@
-//! Which version of a tile is named.
+//! The two versions of a tile.
 
-/// Which of the two versions of a node's tile, or of the two bodies, is meant.
+/// One of the two versions of a node's tile, or of the two bodies.
 #[derive(Clone, Copy, Debug, PartialEq, Eq)]
 pub enum Letter {
     /// The version named a.
@@ -13,7 +13,7 @@ impl Letter {
     ghost use Rattle.std.specs.Prelude.{◌≡◌};
     ghost use Rattle.ept_ckpt.specs.Body.{letter_code};
 
-    /// The number that stands for the letter.
+    /// The number that represents the letter.
     pub(crate) fn code(self) -> u8
         ensures { result ≡ letter_code self }
     {

@@ -9,7 +9,7 @@ use crate::node_line::NodeLine;
 use ept_space::Key;
 
 impl Checkpoint {
-    /// The line of a node, if there is one of this key.
+    /// The line of the node with this key, if there is one.
     pub fn line(&self, key: &Key) -> Option<&NodeLine>
         ensures { option_copied result ≡ line_of_key self.now.nodes key.now }
     {

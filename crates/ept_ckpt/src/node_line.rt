@@ -1,9 +1,9 @@
-//! What a checkpoint tells of a node.
+//! What a checkpoint states of a node.
 
 use crate::letter::Letter;
 use ept_space::Key;
 
-/// What a checkpoint tells of a node.
+/// What a checkpoint states of a node.
 #[derive(Clone, Copy, Debug, PartialEq, Eq)]
 pub struct NodeLine {
     /// The key of the node.

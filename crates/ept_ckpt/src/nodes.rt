@@ -1,4 +1,4 @@
-//! What a body tells of the nodes.
+//! What a body states of the nodes.
 
 ghost use Rattle.std.specs.Prelude.{◌≡◌, ◌≤◌, ◌<◌, ◌^◌, length, IfOk};
 ghost use Rattle.std.specs.List.{All};
@@ -17,7 +17,7 @@ use ept_space::Key;
 use std::alloc::Global;
 
 impl<'a> Cursor<'a> {
-    /// An index on an axis among those of a depth.
+    /// An index on an axis, which is below the number of nodes of a depth on that axis.
     #[tactic(auto, unfolding(crate::specs::Forms::index))]
     fn index(&mut self, depth: u8) -> Result<u32, FieldError>
         requires { depth ≤ 31 }
@@ -27,7 +27,7 @@ impl<'a> Cursor<'a> {
         Ok(self.within(4, 0, (1 << depth) - 1)? as u32)
     }
 
-    /// The key in the next bytes, whose depth is at most this.
+    /// The key in the next bytes, whose depth is at most `most`.
     #[tactic(auto, unfolding(crate::specs::Forms::key_form))]
     fn key(&mut self, most: u8) -> Result<Key, FieldError>
         requires { most ≤ 31 }
@@ -44,7 +44,7 @@ impl<'a> Cursor<'a> {
         Ok(key)
     }
 
-    /// The node in the next bytes, whose depth is at most this.
+    /// The node in the next bytes, whose depth is at most `most`.
     #[tactic(auto, unfolding(crate::specs::Forms::node_form))]
     fn node(&mut self, most: u8) -> Result<NodeLine, FieldError>
         requires { most ≤ 31 }
@@ -63,7 +63,7 @@ impl<'a> Cursor<'a> {
         })
     }
 
-    /// So many nodes, whose depths are at most this.
+    /// The next `number` nodes, whose depths are at most `most`.
     pub(crate) fn nodes(
         &mut self,
         alloc: Global,

@@ -20,7 +20,7 @@ pub(crate) struct Precedence {
 }
 
 impl<'a> Cursor<'a> {
-    /// Which points come first and last, in the next bytes.
+    /// Which points come first and last: from the next bytes in version 3, and none before it.
     pub(crate) fn precedence(&mut self, version: BodyVersion) -> Result<Precedence, FieldError>
         ensures reads { ReadsAs (precedence_form version) precedence_facts self.old self.new result }
         ensures plain { version ≢ V3 → IfOk result (λ p. IsPlain p.first p.withheld_last) }
@@ -34,7 +34,7 @@ impl<'a> Cursor<'a> {
         }
     }
 
-    // The classes that come first, and whether withheld points come last.
+    // From the next bytes: the classes that come first, and whether withheld points come last.
     #[tactic(auto, unfolding(crate::specs::Forms::precedence_form))]
     fn given_precedence(&mut self) -> Result<Precedence, FieldError>
         ensures reads { ReadsAs (precedence_form V3) precedence_facts self.old self.new result }
@@ -49,7 +49,7 @@ impl<'a> Cursor<'a> {
     }
 }
 
-// The set of so many bytes.
+// The set of classes that these bytes represent.
 fn set_of(front: &[u8]) -> ClassSet
     requires { length front.now ≡ SET_LENGTH }
     ensures { result.bytes ≡ front.now }

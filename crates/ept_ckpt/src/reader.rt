@@ -22,16 +22,25 @@ use ept_config::{Input, Kept};
 use ept_point::List;
 use std::alloc::Global;
 
-/// Reads a checkpoint from the bytes of its body. The bodies that are accepted are those that
-/// [`write_ckpt`](crate::write_ckpt) writes.
+/// Reads a checkpoint from the bytes of its body. It accepts the bodies that [`write_ckpt`](crate::write_ckpt) writes,
+/// and no others.
 ///
 /// # Errors
 ///
-/// The fields are looked at in order, and the first that is at fault decides: `Length` if the bytes end
-/// before it does, `Version` if the first bytes are not those of a [`BodyVersion`](crate::BodyVersion), and
-/// `Field` if it is out of its range. After the last field, `Length` if bytes are left, then `Field` for the
-/// generation, which is from 1 to the number of inserted points and inputs together, and one more in versions
-/// 2 and 3, and then `Tree` if the nodes are no whole octree of these points. `Memory` may come at any place.
+/// The fields are read in order, and the first bad one decides:
+///
+/// - `Length` if the bytes end before the field does.
+/// - `Version` if the first bytes are not those of a [`BodyVersion`](crate::BodyVersion).
+/// - `Field` if the field is out of its range.
+///
+/// After the last field, these are judged in order:
+///
+/// - `Length` if bytes are left.
+/// - `Field` for the generation. It is from 1 to the number of inserted points and inputs together, and may be one more
+///   in versions 2 and 3.
+/// - `Tree` if the nodes are no whole octree of the inserted points.
+///
+/// `Memory` may come at any place.
 pub fn read_ckpt(alloc: Global, bytes: &[u8]) -> Result<Checkpoint, CkptError>
     ensures read { IfOk result (λ c. bytes.now ≡ body (facts c)) }
     ensures comes { (c : kept.Checkpoint) → bytes.now ≡ body (facts c)

@@ -1,4 +1,4 @@
-//! What a body tells of the configuration, as a cursor reads it.
+//! What a body states of the configuration, as a cursor reads it.
 
 ghost use Rattle.std.specs.Prelude.{◌≡◌, true, IfOk};
 ghost use Rattle.std.specs.Option.{ForSome};
@@ -21,7 +21,7 @@ use ept_space::Cube;
 use std::alloc::Global;
 
 impl<'a> Cursor<'a> {
-    /// The three signed numbers in the next bytes, each at most `most` from 0.
+    /// The three signed numbers in the next bytes, each with an absolute value of at most `most`.
     #[tactic(auto, unfolding(crate::specs::Fields::three))]
     pub(crate) fn three_near(&mut self, most: u64) -> Result<[i64; 3], FieldError>
         ensures reads { Reads (three (near most)) self.old self.new result }
@@ -33,7 +33,7 @@ impl<'a> Cursor<'a> {
         Ok([x, y, z])
     }
 
-    /// The text of a spatial reference, where it is there.
+    /// The text of a spatial reference, if it is there.
     fn srs_text_if(&mut self, alloc: Global, there: bool) -> Result<Option<Text>, FieldError>
         ensures reads { Reads (optional there srs_text) self.old self.new result }
         ensures is_text { IfOk result (λ text. ForSome text (λ text. is_srs_text text ≡ true)) }
@@ -45,7 +45,7 @@ impl<'a> Cursor<'a> {
         Ok(Some(text))
     }
 
-    /// The spatial reference in the next bytes: a bit for each text that is there, then these.
+    /// The spatial reference in the next bytes: a bit for each text that is there, then these texts.
     #[tactic(auto, unfolding(crate::specs::Forms::srs_form))]
     fn srs(&mut self, alloc: Global) -> Result<Srs, FieldError>
         ensures reads { ReadsAs srs_form srs_facts self.old self.new result }
@@ -63,7 +63,7 @@ impl<'a> Cursor<'a> {
         })
     }
 
-    /// What is kept of the configuration but for the inputs, in the next bytes.
+    /// What is kept of the configuration except the inputs, in the next bytes.
     #[tactic(auto, unfolding(crate::specs::Forms::kept_form))]
     pub(crate) fn settings(&mut self, alloc: Global) -> Result<Settings, FieldError>
         ensures reads { ReadsAs kept_form settings_facts self.old self.new result }

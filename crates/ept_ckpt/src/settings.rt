@@ -1,4 +1,4 @@
-//! What a body tells of the configuration.
+//! What a body states of the configuration.
 
 ghost use Rattle.ept_ckpt.specs.SettingRanges.{SettingsInRange};
 ghost use Rattle.std.proofs.Props.{props};
@@ -6,7 +6,7 @@ ghost use Rattle.std.proofs.Props.{props};
 use ept_config::Srs;
 use ept_space::Bounds;
 
-/// What is kept of the configuration, but for the inputs.
+/// What is kept of the configuration except the inputs.
 #[derive(Drop)]
 pub(crate) struct Settings {
     pub(crate) scale: u8,

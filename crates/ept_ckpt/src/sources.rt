@@ -1,4 +1,4 @@
-//! What a body tells of the inputs.
+//! What a body states of the inputs.
 
 ghost use Rattle.std.specs.Prelude.{◌≡◌, ◌≤◌, is_some, length, IfOk};
 ghost use Rattle.std.specs.List.{All};
@@ -29,7 +29,7 @@ pub(crate) struct Sources {
 }
 
 impl<'a> Cursor<'a> {
-    /// The bytes that a LAS header is to have, where they are there.
+    /// The bytes that a LAS header has to have, if they are there.
     #[tactic(auto, unfolding(crate::specs::Fields::bytes))]
     fn expect_if(&mut self, there: bool) -> Result<Option<[u8; EXPECT_WIDTH]>, FieldError>
         ensures reads { Reads (optional there (bytes 48)) self.old self.new result }
@@ -62,7 +62,7 @@ impl<'a> Cursor<'a> {
         })
     }
 
-    /// An extent within the bounds, where it is there.
+    /// An extent within the bounds, if it is there.
     fn extent_if(&mut self, there: bool, bounds: &Bounds) -> Result<Option<Bounds>, FieldError>
         ensures reads { Reads (optional there (box_within bounds.now)) self.old self.new result }
         ensures there { IfOk result (λ extent. is_some extent ≡ there) }
@@ -117,7 +117,7 @@ impl<'a> Cursor<'a> {
         Ok((input, count))
     }
 
-    /// So many inputs, and what was found of each.
+    /// The next `number` inputs, and what was found of each.
     pub(crate) fn sources(
         &mut self,
         alloc: Global,
@@ -151,7 +151,7 @@ impl<'a> Cursor<'a> {
     }
 }
 
-// The array of so many bytes.
+// These 48 bytes as an array.
 fn expect_of(front: &[u8]) -> [u8; EXPECT_WIDTH]
     requires { length front.now ≡ EXPECT_WIDTH }
     ensures same { result ≡ front.now }

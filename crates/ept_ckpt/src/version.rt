@@ -6,11 +6,11 @@ use ept_point::Layout;
 /// A version of the format of a body.
 #[derive(Clone, Copy, Debug, PartialEq, Eq)]
 pub enum BodyVersion {
-    /// Version 1: record numbers of 32 bits, no class first, withheld points as others.
+    /// Version 1: record numbers of 32 bits; no class comes first, and withheld points do not come last.
     V1,
-    /// Version 2: record numbers of 64 bits, no class first, withheld points as others.
+    /// Version 2: record numbers of 64 bits; no class comes first, and withheld points do not come last.
     V2,
-    /// Version 3, the one that builds write: record numbers of 64 bits, and which points come first and last.
+    /// Version 3, which builds write: record numbers of 64 bits, and which points come first and last.
     V3,
 }
 
@@ -42,7 +42,7 @@ impl BodyVersion {
         }
     }
 
-    /// How many commits there may be without more points or inputs than the one before.
+    /// How many commits there may be that add no points or inputs to the one before.
     pub(crate) fn spare(self) -> u64
         ensures { result ≡ spare_of self }
     {

@@ -9,8 +9,8 @@ use crate::bits::has_bit;
 use crate::node_line::NodeLine;
 use ept_space::{Key, child};
 
-/// Whether the nodes are a whole octree of so many points: their keys ascend, the root is one of them, and
-/// so is the parent of each other; the masks tell the children; and the nodes have so many points together.
+/// Whether the nodes are a whole octree of `points` points. Their keys ascend, the root is one of them, and each other
+/// node has its parent. The masks mark exactly the children. The nodes have `points` points together.
 pub(crate) fn are_nodes_of(points: u64, nodes: &[NodeLine]) -> bool
     ensures { IsTrue result ↔ AreNodesOf points nodes.now }
 {
@@ -31,7 +31,7 @@ fn keys_ascend(nodes: &[NodeLine]) -> bool
     nodes.is_sorted_by(|a, b| a.key < b.key)
 }
 
-/// Whether the key is that of one of the nodes, whose keys ascend.
+/// Whether one of the nodes has this key. The keys of the nodes ascend.
 fn has_key(nodes: &[NodeLine], key: &Key) -> bool
     requires { AllPairs (λ a b. key_cmp a b ≡ Less) (keys_of nodes.now) }
     ensures { result ≡ is_among (keys_of nodes.now) key.now }
@@ -39,7 +39,7 @@ fn has_key(nodes: &[NodeLine], key: &Key) -> bool
     nodes.binary_search_by_key(key, |line| line.key).is_ok()
 }
 
-/// Whether each node but the root has its parent.
+/// Whether each node except the root has its parent.
 fn have_parents(nodes: &[NodeLine]) -> bool
     requires { AllPairs (λ a b. key_cmp a b ≡ Less) (keys_of nodes.now) }
     ensures parents { IsTrue result ↔ All (HasParent (keys_of nodes.now)) (keys_of nodes.now) }
@@ -67,7 +67,7 @@ fn parent(key: &Key) -> Key
     }
 }
 
-/// Whether the mask of each node tells which children it has.
+/// Whether the mask of each node marks exactly the children that it has.
 fn tell_children(nodes: &[NodeLine]) -> bool
     requires ascend { AllPairs (λ a b. key_cmp a b ≡ Less) (keys_of nodes.now) }
     requires known { All IsKey (keys_of nodes.now) }
@@ -81,7 +81,7 @@ fn tell_children(nodes: &[NodeLine]) -> bool
     true
 }
 
-/// Whether the mask of a node tells which children it has among the nodes.
+/// Whether the mask of a node marks exactly the children that it has among the nodes.
 fn tells_children(nodes: &[NodeLine], line: &NodeLine) -> bool
     requires ascend { AllPairs (λ a b. key_cmp a b ≡ Less) (keys_of nodes.now) }
     requires known { All IsKey (keys_of nodes.now) }
@@ -95,7 +95,7 @@ fn tells_children(nodes: &[NodeLine], line: &NodeLine) -> bool
     true
 }
 
-/// Whether the child of a key at an octant is one of the nodes. Below the greatest depth there is none.
+/// Whether the child of a key at an octant is one of the nodes. A key of the greatest depth has no child.
 fn has_child(nodes: &[NodeLine], key: &Key, octant: u8) -> bool
     requires ascend { AllPairs (λ a b. key_cmp a b ≡ Less) (keys_of nodes.now) }
     requires known { All IsKey (keys_of nodes.now) }
@@ -105,7 +105,7 @@ fn has_child(nodes: &[NodeLine], key: &Key, octant: u8) -> bool
     key.depth < Key::MAX_DEPTH && has_key(nodes, &child(key, octant))
 }
 
-/// Whether the nodes have so many points together.
+/// Whether the nodes have this number of points together.
 fn has_points(points: u64, nodes: &[NodeLine]) -> bool
     ensures { IsTrue result ↔ points_in nodes.now ≡ points }
 {

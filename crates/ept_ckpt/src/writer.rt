@@ -17,8 +17,8 @@ use ept_config::{EXPECT_WIDTH, Input, Kept, SourceCount, Srs};
 use ept_point::Memory;
 use ept_space::Bounds;
 
-/// Appends the body of a checkpoint. The body is made beside `out` first, so where memory runs out, `out`
-/// is as it was.
+/// Appends the body of a checkpoint. The body is made in a buffer of its own first. So if memory runs out, `out` is as
+/// it was.
 pub fn write_ckpt(checkpoint: &Checkpoint, out: &mut Vec<u8>) -> Result<(), Memory>
     ensures body { OnOk result (out.new.items ≡ out.old.items ++ body (facts checkpoint.now)) }
     ensures unchanged { OnErr result (out.new.items ≡ out.old.items) }
@@ -47,7 +47,7 @@ fn append_body(out: &mut Vec<u8>, checkpoint: &Checkpoint) -> Result<(), Memory>
     Ok(())
 }
 
-// Which points come first and last, where the version has it.
+// Appends which points come first and last, if the version has this.
 fn append_precedence(out: &mut Vec<u8>, version: BodyVersion, kept: &Kept) -> Result<(), Memory>
     ensures { OnOk result (out.new.items ≡ out.old.items ++ precedence_bytes version (precedence_of kept.now)) }
 {

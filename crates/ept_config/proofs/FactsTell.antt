@@ -1,4 +1,4 @@
--- What has the same facts is the same.
+-- Configurations with the same facts are the same.
 use Rattle.std.proofs.Common.{◌≡◌, List, [], ◌∷◌, map, refl}
 use Rattle.std.proofs.Props.{props}
 use mathlib.Core.HLevel.{is_prop→PathP}

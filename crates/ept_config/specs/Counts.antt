@@ -1,4 +1,4 @@
--- The number of an input's points and their extent: whose they are, and what such a count may be.
+-- The number of an input's points and their extent: of which points they are, and what such a count may be.
 use Rattle.std.specs.Prelude.{◌≡◌, ℕ, ◌<◌, ◌≤◌, ◌↔◌, List, length, sum_by, IsSome}
 use Rattle.std.specs.Option.{ForSome}
 use Rattle.ept_point.specs.declared.point.Point.{Point}
@@ -11,7 +11,7 @@ use Rattle.ept_config.specs.Extents.{HasExtent}
 abbrev pub most_points : ℕ
 most_points = 1099511627775
 
--- the number of all points of some counts
+-- the number of points of all counts together
 abbrev pub total : List SourceCount → ℕ
 total counts = sum_by (λ count. count.points) counts
 
@@ -20,7 +20,7 @@ pub record IsCountOf (points : List Point) (count : SourceCount) : Type 0 where
   pub number : count.points ≡ length points
   pub has_extent : HasExtent points count.extent
 
--- The points are not too many. An extent is there exactly where there are points: its minimum is at most
+-- There are at most `most_points` points. There is an extent if and only if there are points. Its minimum is at most
 -- its maximum on every axis, and it lies within the bounds.
 pub record IsCount (bounds : Bounds) (count : SourceCount) : Type 0 where
   pub few : count.points ≤ most_points

@@ -1,4 +1,4 @@
--- Where points lie: within bounds, and the extent of a list of points.
+-- Points within bounds, and the extent of a list of points.
 use Rattle.std.specs.Prelude.{◌≡◌, ℤ, List, [], Option, Some, None, All, Any}
 use Rattle.ept_point.specs.declared.point.Point.{Point}
 use Rattle.ept_space.specs.declared.bounds.Bounds.{Bounds}
@@ -17,13 +17,13 @@ pub record IsSpanOf (axis : Point → ℤ) (points : List Point) (least greatest
   pub least_is : Any (λ p. axis p ≡ least) points
   pub greatest_is : Any (λ p. axis p ≡ greatest) points
 
--- the same on each axis: the extent of some points
+-- the same on each axis: the extent of points
 pub record IsExtentOf (points : List Point) (extent : Bounds) : Type 0 where
   pub x : IsSpanOf (λ p. p.x) points (coordinate extent.min 0) (coordinate extent.max 0)
   pub y : IsSpanOf (λ p. p.y) points (coordinate extent.min 1) (coordinate extent.max 1)
   pub z : IsSpanOf (λ p. p.z) points (coordinate extent.min 2) (coordinate extent.max 2)
 
--- the extent, which is there exactly where there are points
+-- the extent, which is there if and only if there are points
 abbrev pub HasExtent : List Point → Option Bounds → Type 0
 HasExtent points None = points ≡ []
 HasExtent points (Some extent) = IsExtentOf points extent

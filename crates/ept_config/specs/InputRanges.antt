@@ -1,16 +1,16 @@
--- What an input keeps.
+-- The ranges of an input.
 use Rattle.std.specs.Prelude.{ℕ, ℤ, pos, ◌≡◌, ◌<◌, ◌≤◌, ◌^◌, List, length, slice_index, slice_index_or, unsigned_abs, true, Option}
 use Rattle.std.specs.Option.{ForSome}
 use Rattle.ept_config.specs.Texts.{is_path}
 
--- three numbers, each at most this far from 0
+-- three numbers, each with an absolute value of at most `greatest`
 pub record AreThreeWithin (greatest : ℕ) (xs : List ℤ) : Type 0 where
   pub three : length xs ≡ 3
   pub x : unsigned_abs (slice_index_or xs 0 (pos 0)) ≤ greatest
   pub y : unsigned_abs (slice_index_or xs 1 (pos 0)) ≤ greatest
   pub z : unsigned_abs (slice_index_or xs 2 (pos 0)) ≤ greatest
 
--- so many bytes
+-- `width` bytes
 pub record AreBytes (width : ℕ) (bytes : List ℕ) : Type 0 where
   pub width_is : length bytes ≡ width
   pub fit : (i : ℕ) → slice_index bytes i < 2 ^ 8

@@ -4,7 +4,7 @@ use Rattle.ept_space.specs.declared.bounds.Bounds.{Bounds}
 use Rattle.ept_config.specs.declared.config.Config.{Config}
 use Rattle.ept_config.specs.declared.kept.Kept.{Kept}
 
--- all but how much of the machine is used, with these bounds
+-- everything with these bounds, except how much of the machine is used
 pub record IsKeptOf (config : Config) (bounds : Bounds) (kept : Kept) : Type 0 where
   pub scale_is : kept.scale ≡ config.scale
   pub offset_is : kept.offset ≡ config.offset

@@ -1,4 +1,4 @@
--- What a configuration keeps.
+-- The ranges of a configuration.
 use Rattle.std.specs.Prelude.{ℕ, ℤ, ◌≡◌, ◌≤◌, ◌^◌, List, length, FitsSigned, Option}
 use Rattle.std.specs.Option.{ForSome}
 use Rattle.std.specs.List.{All}
@@ -34,7 +34,7 @@ pub record BoundsInRange (bounds : Bounds) : Type 0 where
   pub max_is : AreCoordinates bounds.max
   pub ordered : HasPlace bounds
 
--- the bounds, where they are given
+-- the bounds, if they are given
 abbrev pub GivenBoundsInRange : Option Bounds → Type 0
 GivenBoundsInRange bounds = ForSome bounds BoundsInRange
 

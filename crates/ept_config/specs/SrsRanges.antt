@@ -1,4 +1,4 @@
--- What a spatial reference keeps.
+-- The ranges of a spatial reference.
 use Rattle.std.specs.Prelude.{ℕ, ◌≡◌, List, true, Option}
 use Rattle.std.specs.Option.{ForSome}
 use Rattle.ept_config.specs.Texts.{is_srs_text}

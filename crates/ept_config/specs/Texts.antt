@@ -3,7 +3,7 @@ use Rattle.std.specs.Prelude.{ℕ, Bool, List, length, nat_le, ◌&&◌, ◌==�
 use Rattle.std.specs.List.{list_all}
 use Rattle.std.specs.Str.{is_utf8}
 
--- no control byte: neither below 32 nor 127
+-- the byte is no control byte: it is neither below 32 nor 127
 abbrev pub is_shown : ℕ → Bool
 is_shown byte = nat_le 32 byte && not (byte == 127)
 

@@ -1,11 +1,11 @@
-//! What bounds keep.
+//! The ranges of bounds.
 
 ghost use Rattle.ept_space.specs.CubeOfBounds.{HasPlace};
 ghost use Rattle.ept_config.specs.Ranges.{BoundsInRange};
 
 use ept_space::Bounds;
 
-/// Tells a proof that the numbers of bounds are of 32 bits.
+/// Makes known to the caller's proof that the numbers of bounds have 32 bits. Does nothing at run time.
 pub fn bounds_known(bounds: &Bounds)
     requires { HasPlace bounds.now }
     ensures in_range { BoundsInRange bounds.now }

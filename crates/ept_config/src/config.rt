@@ -23,9 +23,9 @@ pub struct Config {
     /// The bounds of all points, in stored units, if they are given. The minimum is at most the maximum
     /// on each axis.
     pub bounds: Option<Bounds>,
-    /// The exponent of the span: a node has 2^s cells an axis.
+    /// The exponent of the span: a node has 2^s cells on each axis.
     pub s: u8,
-    /// How many losers an octant keeps in its node before they go down to a child.
+    /// How many losers an octant keeps in its node before they move to a child.
     pub threshold: u64,
     /// The greatest depth of a node that is asked for.
     pub max_depth: u8,
@@ -33,11 +33,11 @@ pub struct Config {
     pub step: u8,
     /// The spatial reference.
     pub srs: Srs,
-    /// The classes whose points come before all others. Without a member all classes are alike.
+    /// The classes whose points come before all others. If the set is empty, no class comes first.
     pub first: ClassSet,
     /// Whether withheld points come after all others.
     pub withheld_last: bool,
-    /// The inputs in order. None has a greater scale than the build.
+    /// The inputs in order. No input has a greater scale than the build.
     pub inputs: List<Input>,
     /// The number of threads that insert points, from 1 to `cache`.
     pub threads: u32,

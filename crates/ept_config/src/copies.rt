@@ -7,7 +7,7 @@ use crate::srs::Srs;
 use ept_point::{List, Memory, Text};
 use std::alloc::Global;
 
-/// The same text again.
+/// A copy of a text.
 pub fn copy_of_text(alloc: Global, text: &Text) -> Result<Text, Memory>
     ensures { IfOk result (λ copy. copy ≡ text.now) }
 {
@@ -15,7 +15,7 @@ pub fn copy_of_text(alloc: Global, text: &Text) -> Result<Text, Memory>
     Ok(Text::of(copy))
 }
 
-/// The same input again.
+/// A copy of an input.
 pub fn copy_of_input(alloc: Global, input: &Input) -> Result<Input, Memory>
     ensures { IfOk result (λ copy. copy ≡ input.now) }
 {
@@ -36,7 +36,7 @@ fn copy_of_member(alloc: Global, text: &Option<Text>) -> Result<Option<Text>, Me
     }
 }
 
-/// The same spatial reference again.
+/// A copy of a spatial reference.
 pub fn copy_of_srs(alloc: Global, srs: &Srs) -> Result<Srs, Memory>
     ensures { IfOk result (λ copy. copy ≡ srs.now) }
 {
@@ -48,7 +48,7 @@ pub fn copy_of_srs(alloc: Global, srs: &Srs) -> Result<Srs, Memory>
     })
 }
 
-/// The same inputs again.
+/// A copy of the inputs.
 pub fn copy_of_inputs(alloc: Global, inputs: &List<Input>) -> Result<List<Input>, Memory>
     ensures { IfOk result (λ copy. copy ≡ inputs.now) }
 {

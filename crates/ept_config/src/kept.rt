@@ -11,7 +11,7 @@ use ept_point::{List, Memory};
 use ept_space::Bounds;
 use std::alloc::Global;
 
-/// What the output of a build depends on. It is kept beside the output from the first commit on.
+/// What the output of a build depends on. From the first commit on it is kept together with the output.
 #[derive(Debug, Drop)]
 pub struct Kept {
     /// The exponent K of the stored unit, 10^-K native units.
@@ -20,21 +20,21 @@ pub struct Kept {
     pub offset: [i64; 3],
     /// The bounds of all points, in stored units. The minimum is at most the maximum on each axis.
     pub bounds: Bounds,
-    /// The exponent of the span: a node has 2^s cells an axis.
+    /// The exponent of the span: a node has 2^s cells on each axis.
     pub s: u8,
-    /// How many losers an octant keeps in its node before they go down to a child.
+    /// How many losers an octant keeps in its node before they move to a child.
     pub threshold: u64,
     /// The greatest depth of a node that was asked for.
     pub max_depth: u8,
-    /// How many depths a hierarchy file has, or 0 where there is one file.
+    /// How many depths a hierarchy file has, or 0 for one file.
     pub step: u8,
     /// The spatial reference.
     pub srs: Srs,
-    /// The classes whose points come before all others. Without a member all classes are alike.
+    /// The classes whose points come before all others. If the set is empty, no class comes first.
     pub first: ClassSet,
     /// Whether withheld points come after all others.
     pub withheld_last: bool,
-    /// The inputs in order. None has a greater scale than the build.
+    /// The inputs in order. No input has a greater scale than the build.
     pub inputs: List<Input>,
     pub ghost layout: { LayoutInRange scale offset s threshold max_depth step inputs } by { Prim.hlevel props },
     pub ghost has_bounds: { BoundsInRange bounds } by { Prim.hlevel props },
@@ -52,7 +52,7 @@ impl Kept {
         &self.inputs.as_slice()[at]
     }
 
-    /// The same again.
+    /// A copy of what is kept.
     pub fn copy(&self, alloc: Global) -> Result<Kept, Memory>
         ensures same { IfOk result (λ copy. copy ≡ self.now) }
     {

@@ -6,7 +6,7 @@ pub const MAX_INPUTS: usize = 65_535;
 /// The greatest length of an input's path, in bytes.
 pub const MAX_PATH: usize = 4_096;
 
-/// The greatest scale: a stored unit is at least 10^-9 native units.
+/// The greatest scale. With it a stored unit is 10^-9 native units.
 pub const MAX_SCALE: u8 = 9;
 
 /// The greatest absolute value of an offset, in native units.

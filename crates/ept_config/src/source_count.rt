@@ -6,8 +6,8 @@ ghost use Rattle.ept_config.specs.Counts.{total, most_points};
 
 use ept_space::Bounds;
 
-/// What the first reading of an input finds: the number of its points, and their extent in stored
-/// units, which is there where there are points. The type does not keep that it is.
+/// What the first reading of an input finds: the number of its points, and their extent in stored units. The extent is
+/// there if and only if there are points, but the type does not keep this.
 #[derive(Clone, Copy, Debug, PartialEq, Eq)]
 pub struct SourceCount {
     pub points: u64,
@@ -17,7 +17,7 @@ pub struct SourceCount {
 /// The greatest number of points of an input, 2^40 - 1.
 pub const MAX_POINTS: u64 = 1_099_511_627_775;
 
-/// The number of all points of some counts.
+/// The number of points of all counts together.
 pub fn total_of(counts: &[SourceCount]) -> u64
     requires inputs { length counts.now ≤ 65535 }
     requires few { All (λ count. count.points ≤ most_points) counts.now }

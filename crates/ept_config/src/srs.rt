@@ -5,13 +5,13 @@ ghost use Rattle.std.proofs.Props.{props};
 
 use ept_point::Text;
 
-/// The spatial reference system of the points (Entwine Point Tile 1.1.0, `srs`). Nothing here reads
-/// the texts: they pass to the metadata as they are.
+/// The spatial reference system of the points (Entwine Point Tile 1.1.0, `srs`). The texts are not interpreted here.
+/// They are passed to the metadata unchanged.
 ///
 /// Each text is UTF-8 of at most `MAX_SRS_TEXT` bytes without control bytes.
 #[derive(Debug, Drop)]
 pub struct Srs {
-    /// The authority of the codes, as `EPSG`.
+    /// The authority of the codes, such as `EPSG`.
     pub authority: Option<Text>,
     /// The code of the horizontal system.
     pub horizontal: Option<Text>,

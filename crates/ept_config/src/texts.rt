@@ -6,7 +6,7 @@ ghost use Rattle.ept_config.specs.Texts.{is_shown, is_plain, is_path, is_srs_tex
 
 use crate::limits::{MAX_PATH, MAX_SRS_TEXT};
 
-/// Whether a text may be the path of an input: 1 to `MAX_PATH` bytes, none of them below 32 or 127.
+/// Whether a text may be the path of an input: 1 to `MAX_PATH` bytes, none of them below 32 or equal to 127.
 #[tactic(auto, unfolding(crate::specs::Texts::is_path))]
 pub fn is_path(text: &str) -> bool
     ensures path { result ≡ is_path text.now }
@@ -14,8 +14,8 @@ pub fn is_path(text: &str) -> bool
     is_plain(text) && 1 <= text.len() && text.len() <= MAX_PATH
 }
 
-/// Whether a text may be one of a spatial reference: at most `MAX_SRS_TEXT` bytes, none of them below 32
-/// or 127.
+/// Whether a text may be one of a spatial reference: at most `MAX_SRS_TEXT` bytes, none of them below 32 or equal to
+/// 127.
 #[tactic(auto, unfolding(crate::specs::Texts::is_srs_text))]
 pub fn is_srs_text(text: &str) -> bool
     ensures text { result ≡ is_srs_text text.now }

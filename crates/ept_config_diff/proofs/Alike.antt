@@ -1,4 +1,4 @@
--- Inputs at the front of two lists that are the same.
+-- Inputs at the start of two lists that are the same.
 use Rattle.std.proofs.Common.{◌≡◌, ◌≢◌, ◌∙◌, inl, inr, append_assoc, ℕ, zero, suc, ◌+◌, ◌-◌, ◌<◌, ◌≤◌, List, [], ◌∷◌, ◌++◌, take, drop, length, get_or, refl, sym, ap, subst, arith}
 use Rattle.std.proofs.lemmas.List.{take-append-drop, length-take, append-nil, length-append}
 use Rattle.ept_config.specs.declared.input.Input.{Input}
@@ -13,7 +13,7 @@ head_is a b as_ bs e = ap first e
     first [] = a
     first (x ∷ xs) = x
 
--- what stands behind the first ones begins with the one at that place
+-- the items after the first n begin with the item at place n
 next_is : (xs : List Input) (n : ℕ) (a : Input) (more : List Input) → drop n xs ≡ a ∷ more → (n < length xs) × ((d : Input) → get_or xs n d ≡ a)
 next_is [] zero a more e = absurd (cc)
 next_is [] (suc n) a more e = absurd (cc)
@@ -46,7 +46,7 @@ tail_same (f ∷ front) a b e = tail_same front a b (ap tail e)
     tail [] = []
     tail (x ∷ xs) = xs
 
--- where all that are kept are the same, they are the first of those given, and the other way round
+-- all kept inputs are the same as the given ones if and only if they are the first of these
 pub all-alike : (count : ℕ) (kept given : List Input) → AreAlikeTo count kept given → count ≡ length kept → ArePrefix kept given
 all-alike count kept given are all =
     let none : are.kept_rest ≡ [] = rest_empty are.front are.kept_rest (are.counted ∙ (all ∙ ap length are.kept_are)) in
@@ -64,7 +64,7 @@ alike-all count kept given are first = at are.kept_rest refl
         sym are.given_are ∙ (first.1 ∙ (ap (λ (w : List Input). w ++ first.0) kept_is ∙ append_assoc are.front (a ∷ more) first.0)) in
         absurd (are.no_more a a more (more ++ first.0) is (tail_same are.front are.given_rest (a ∷ more ++ first.0) given_is) refl)
 
--- ---- the first that differs
+-- ---- the first input that differs
 
 some_rest : (count : ℕ) (kept given : List Input) (are : AreAlikeTo count kept given) → ¬ ArePrefix kept given → (a : Input) × (more : List Input) × (are.kept_rest ≡ a ∷ more)
 some_rest count kept given are not = at are.kept_rest refl
@@ -83,7 +83,7 @@ stands list front rest more count a d list_is rest_is counted at =
     ∙ (ap (λ (n : ℕ). get_or list n d) (sym counted)
     ∙ (ap (λ (w : List Input). get_or w (length front) d) (list_is ∙ ap (λ (w : List Input). front ++ w) rest_is) ∙ at_seam front a more d))
 
--- both have another input
+-- the next inputs of both lists differ
 pub texts-of-both : (count : ℕ) (kept given : List Input) (one other : Input) (one_text other_text : List ℕ) → AreAlikeTo count kept given → ¬ ArePrefix kept given → count < length given → get_or kept count one ≡ one → get_or given count other ≡ other → one_text ≡ input_text one → other_text ≡ input_text other → AreInputTexts kept given one_text other_text
 texts-of-both count kept given one other one_text other_text are not inside at_kept at_given one_is other_is =
     let some = some_rest count kept given are not in
@@ -105,7 +105,7 @@ texts-of-both count kept given one other one_text other_text are not inside at_k
           given_is = inr (other, others, are.given_are ∙ ap (λ (w : List Input). are.front ++ w) (is ∙ ap (λ (w : Input). w ∷ others) (sym other_at)), (λ same. are.no_more some.0 b some.1 others some.2 is (sym other_at ∙ (same ∙ one_at))), other_is);
         }
 
--- the given ones end before it
+-- the given inputs end before it
 pub texts-of-one : (count : ℕ) (kept given : List Input) (one : Input) (one_text other_text : List ℕ) → AreAlikeTo count kept given → ¬ ArePrefix kept given → length given ≤ count → get_or kept count one ≡ one → one_text ≡ input_text one → other_text ≡ [] → AreInputTexts kept given one_text other_text
 texts-of-one count kept given one one_text other_text are not outside at_kept one_is none_is =
     let some = some_rest count kept given are not in

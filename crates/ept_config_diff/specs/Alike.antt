@@ -1,8 +1,8 @@
--- The inputs at the front of two lists that are the same.
+-- The inputs at the start of two lists that are the same.
 use Rattle.std.specs.Prelude.{◌≡◌, ◌≢◌, ℕ, List, ◌∷◌, ◌++◌, length}
 use Rattle.ept_config.specs.declared.input.Input.{Input}
 
--- so many at the front are the same, and no more: one list ends there, or both have another input next
+-- The first `count` inputs of both lists are the same, and no more: one list ends there, or the next inputs differ.
 pub record AreAlikeTo (count : ℕ) (kept given : List Input) : Type 0 where
   pub front : List Input
   pub kept_rest : List Input

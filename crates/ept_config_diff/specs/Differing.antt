@@ -1,4 +1,4 @@
--- Whether a configuration goes on from what is kept of an earlier one, and where it first differs.
+-- Whether a configuration continues what is kept of an earlier one, and in which field it first differs.
 use Rattle.std.specs.Prelude.{◌≡◌, ◌≢◌, ◌⊎◌, ℕ, List, [], ◌∷◌, ◌++◌, All}
 use Rattle.ept_config.specs.declared.input.Input.{Input}
 use Rattle.ept_config.specs.declared.kept.Kept.{Kept}
@@ -7,11 +7,11 @@ use Rattle.ept_meta.specs.declared.fields.Field.TheVariants as field
 use Rattle.ept_meta.specs.BuildText.{field_text, input_text}
 use Rattle.ept_config_diff.specs.declared.differing.Difference.{Difference}
 
--- the inputs that are kept are the first of those given
+-- the kept inputs are the first of the given ones
 abbrev pub ArePrefix : List Input → List Input → Type 0
 ArePrefix kept given = (more : List Input) × (given ≡ kept ++ more)
 
--- what is given of a field is as it is kept
+-- a field is given as it is kept
 abbrev pub IsAsKept : Kept → Kept → Field → Type 0
 IsAsKept kept given field.Scale = given.scale ≡ kept.scale
 IsAsKept kept given field.Offset = given.offset ≡ kept.offset
@@ -30,7 +30,7 @@ abbrev pub in_order : List Field
 in_order =
     field.Scale ∷ field.Offset ∷ field.Bounds ∷ field.Span ∷ field.MinNodeSize ∷ field.MaxDepth ∷ field.HierarchyStep ∷ field.Srs ∷ field.FirstClasses ∷ field.WithheldLast ∷ field.Input ∷ []
 
--- nothing differs: the inputs may be more than those kept
+-- no field differs; there may be more inputs than are kept
 abbrev pub GoesOnFrom : Kept → Kept → Type 0
 GoesOnFrom kept given = All (IsAsKept kept given) in_order
 
@@ -42,7 +42,7 @@ pub record IsFirst (kept given : Kept) (field : Field) : Type 0 where
   pub alike : All (IsAsKept kept given) before
   pub differs : ¬ IsAsKept kept given field
 
--- the texts of the first input that differs, of which the given list may end before it
+-- The texts of the first input that differs. The given list may end before it, and then its text is empty.
 pub record AreInputTexts (kept given : List Input) (kept_text given_text : List ℕ) : Type 0 where
   pub alike : List Input
   pub one : Input

@@ -24,9 +24,9 @@ const FIELDS: [Field; 11] = [
     Field::Input,
 ];
 
-/// The first field in which what is given differs from what is kept, with both values as the build file has
-/// them. Of the inputs these are those of the first input that differs; the given one is empty where the list
-/// ends before it.
+/// The first field in which what is given differs from what is kept, with both values as the build file has them. If
+/// the field is the inputs, the values are those of the first input that differs. The given value is empty if the given
+/// list ends before that input.
 #[derive(Debug, Drop)]
 pub struct Difference {
     pub field: Field,
@@ -34,8 +34,8 @@ pub struct Difference {
     pub given: Vec<u8>,
 }
 
-/// The first difference of what is given from what is kept, if there is one. There may be more inputs given
-/// than are kept.
+/// Returns the first difference of what is given from what is kept, if there is one. More inputs may be given than are
+/// kept.
 pub fn first_difference(
     alloc: Global,
     kept: &Kept,
@@ -50,7 +50,7 @@ pub fn first_difference(
     }
 }
 
-// The first field that differs.
+// The first field that differs, if there is one.
 fn first_field(kept: &Kept, given: &Kept) -> Option<Field>
     ensures none { result ≡ None → GoesOnFrom kept.now given.now }
     ensures some { IfSome result (IsFirst kept.now given.now) }
@@ -63,7 +63,7 @@ fn first_field(kept: &Kept, given: &Kept) -> Option<Field>
     None
 }
 
-// Whether what is given of a field is as it is kept.
+// Whether a field is given as it is kept.
 fn is_as_kept(kept: &Kept, given: &Kept, field: Field) -> bool
     ensures { IsTrue result ↔ IsAsKept kept.now given.now field }
 {
@@ -82,7 +82,7 @@ fn is_as_kept(kept: &Kept, given: &Kept, field: Field) -> bool
     }
 }
 
-// Tells of a field that differs.
+// The difference in a field that differs.
 fn told(alloc: Global, kept: &Kept, given: &Kept, field: Field) -> Result<Difference, Memory>
     requires { ¬ IsAsKept kept.now given.now field }
     ensures field { IfOk result (λ d. d.field ≡ field) }
@@ -107,7 +107,7 @@ fn told(alloc: Global, kept: &Kept, given: &Kept, field: Field) -> Result<Differ
     })
 }
 
-// Appends the first input that differs, as it is kept and as it is given, if it is.
+// Appends the first input that differs: as it is kept to `one`, and as it is given, if it is, to `other`.
 fn append_inputs(
     kept: &[Input],
     given: &[Input],

@@ -1,4 +1,4 @@
-//! What is the same of two configurations.
+//! Whether parts of two configurations are the same.
 
 ghost use Rattle.std.specs.Prelude.{◌≡◌, ◌↔◌, IsTrue};
 ghost use Rattle.ept_config_diff.specs.Differing.{ArePrefix};
@@ -66,7 +66,7 @@ pub(crate) fn is_same_set(a: &ClassSet, b: &ClassSet) -> bool
     b.bytes == a.bytes
 }
 
-/// Whether bounds are the same.
+/// Whether two bounds are the same.
 pub(crate) fn is_same_bounds(a: &Bounds, b: &Bounds) -> bool
     ensures { IsTrue result ↔ (b.now ≡ a.now) }
 {
@@ -85,7 +85,7 @@ fn is_same_input(a: &Input, b: &Input) -> bool
     path & scale & shift & expect
 }
 
-/// How many inputs at the front of both lists are the same.
+/// How many inputs at the start of both lists are the same.
 pub(crate) fn alike(kept: &[Input], given: &[Input]) -> usize
     ensures { AreAlikeTo result kept.now given.now }
 {
@@ -99,7 +99,7 @@ pub(crate) fn alike(kept: &[Input], given: &[Input]) -> usize
     at
 }
 
-/// Whether the inputs that are kept are the first of those given.
+/// Whether the kept inputs are the first of the given ones.
 pub(crate) fn is_prefix(kept: &[Input], given: &[Input]) -> bool
     ensures { IsTrue result ↔ ArePrefix kept.now given.now }
 {

@@ -1,4 +1,5 @@
-//! Batches: whether a configuration goes on from what an earlier build kept, its inputs the first of those given.
+//! Batches: whether a configuration continues what an earlier build kept, with the kept inputs as the first of those
+//! given.
 #![tactic(auto)]
 
 mod differing;

@@ -27,7 +27,7 @@ more_classes d ds old new class h is none members = record {
   members = λ other. members other ∙ ap (λ (b : Bool). eqb other class || b) (h.members other);
 }
 
--- an item that names no class, or one that is named behind it
+-- an item that names no class, or a class that is named after it
 pub no_class : (d : Data) (ds : List Data) → IsNone (class_of d) → distinct_classes (d ∷ ds) ≡ None
 no_class d ds none = without (distinct_classes ds) (class_of d) none where
   without : (classes : Option (List ℕ)) (class : Option ℕ) → IsNone class → option_and_then (λ cs. option_and_then (λ c. one_more c cs) class) classes ≡ None
@@ -42,7 +42,7 @@ named_twice d ds set class h is some =
     rw (h.named, ← is, listed) refl
 
 module _ {X : Type 0} (see : X → Data) where
-  -- the items from a place on, of which the first is the one before the others
+  -- the items from a place on, the first of which is the item before the others
   pub first_behind : (items : List X) (at : ℕ) (item : X) → 0 < at → at ≤ length items → item ≡ get_or items (at - 1) item → map see (drop (at - 1) items) ≡ see item ∷ map see (drop at items)
   first_behind items at item some most is =
       let back : at - 1 + 1 ≡ at = omega arith in
@@ -50,12 +50,12 @@ module _ {X : Type 0} (see : X → Data) where
       ∙ ap (λ (x : X). see x ∷ map see (drop (at - 1 + 1) items)) (sym is)
       ∙ ap (λ (n : ℕ). see item ∷ map see (drop n items)) back
 
-  -- where those from a place on name no classes, all of them name none
+  -- if the items from a place on name no classes, all of them name none
   pub none_in_front : (items : List X) (at : ℕ) → distinct_classes (map see (drop at items)) ≡ None → distinct_classes (map see items) ≡ None
   none_in_front items zero none = none
   none_in_front [] (suc at) none = none
   none_in_front (d ∷ ds) (suc at) none = rw (none_in_front ds at none) refl
 
--- a set of all of them is what the items say
+-- a set of the classes of all items has what the items say
 pub all_classes : (items : List Data) (set : ClassSet) → HasClassesOf items set → option_map is_listed (distinct_classes items) ≡ Some (has_class set)
 all_classes items set h = rw h.named (ap Some (λ i class. sym (h.members class) i))

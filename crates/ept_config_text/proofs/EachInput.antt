@@ -1,4 +1,4 @@
--- Inputs are read from the front of a list: those read so far, and then the rest.
+-- Inputs are read from the start of a list: those read so far, and then the rest.
 use Rattle.std.proofs.Common.{ℕ, ◌≡◌, ◌<◌, ◌+◌, List, [], ◌∷◌, ◌++◌, length, map, drop, get_or, refl, ap, sym, ◌∙◌, append_assoc, add-one}
 use Rattle.std.proofs.Math.Seq.{drop-length, drop-cons}
 use Rattle.std.proofs.lemmas.List.{append-nil}
@@ -10,7 +10,7 @@ use Rattle.ept_config.specs.Facts.{InputFacts}
 use Rattle.ept_config_text.specs.Steps.{◌>>=◌}
 use Rattle.ept_config_text.specs.Values.{input, each_input}
 
--- inputs that were read, and then what the others give
+-- inputs that were read, and then those of the other items
 abbrev pub after : List InputFacts → Result (List InputFacts) ConfigError → Result (List InputFacts) ConfigError
 after front rest = rest >>= λ others. Ok (front ++ others)
 
@@ -25,7 +25,7 @@ after-one front first (Err e) = refl
 rest-cons : (items : List Value) (i : ℕ) (item : Value) → i < length items → item ≡ get_or items i item → map view (drop i items) ≡ view item ∷ map view (drop (i + 1) items)
 rest-cons items i item h e = ap (map view) (drop-cons items i item h) ∙ rw (← e, add-one)
 
--- what is read so far, and what the items from i on give
+-- what is read so far, and then what the items from i on are read as
 abbrev pub IsReadTo : ℕ → List Value → ℕ → List InputFacts → Type 0
 IsReadTo scale items i front = each_input scale (map view items) ≡ after front (each_input scale (map view (drop i items)))
 

@@ -25,7 +25,7 @@ stage (Range key) = 6
 stage Threads = 7
 stage Memory = 8
 
--- refused from the stage `low` to the stage `high`, if at all
+-- if it is refused, then from the stage `low` to the stage `high`
 pub record IsWithin {A : Type 0} (low high : ℕ) (r : Result A ConfigError) : Type 0 where
   pub least : (e : ConfigError) → r ≡ Err e → low ≤ stage e
   pub most : (e : ConfigError) → r ≡ Err e → stage e ≤ high
@@ -138,7 +138,7 @@ work_at-fault : (d : Data) → IsWithin 6 6 (work_at d)
 unfolding work_at
 work_at-fault d = search (arith, then, accepted, natural_at-fault) depth 14
 
--- the values of the keys are refused for their kinds and ranges alone
+-- the values of the keys are refused only for their types and ranges
 pub values-fault : (input scale d : Data) → IsWithin 6 6 (values input scale d)
 unfolding values
 values-fault input scale d = search (arith, then, accepted, natural-fault, inputs-fault, offset_at-fault, bounds_at-fault, span_at-fault, natural_at-fault, srs_at-fault, first_classes_at-fault, withheld_last_at-fault, work_at-fault) depth 14

@@ -18,7 +18,7 @@ pub list_of-items_of : (items : List Data) → json.list_of (items_of items) ≡
 list_of-items_of [] = refl
 list_of-items_of (d ∷ items) = ap (λ ds. d ∷ ds) (list_of-items_of items)
 
--- a test of the keys of a map is one of the keys of its object
+-- a test of the keys of a map is a test of the keys of its object
 pub list_all-keys_of : (test : List ℕ → Bool) (entries : List (String Global × Value)) → list_all test (json.keys_of (members_view entries)) ≡ list_all (λ key. test (string_bytes key)) (keys_of entries)
 list_all-keys_of test [] = refl
 list_all-keys_of test (e ∷ entries) = ap (λ rest. test (string_bytes e.0) && rest) (list_all-keys_of test entries)

@@ -25,7 +25,7 @@ last_three (a ∷ []) e = absurd (omega arith)
 last_three (a ∷ b ∷ []) e = absurd (omega arith)
 last_three (a ∷ b ∷ c ∷ xs) e = three_items xs (omega arith)
 
--- each coordinate of a place is one of 32 bits
+-- each coordinate of a place has 32 bits
 pub place_of-three : (a b c x y z : ℤ) → Some x ≡ coordinate_of a → Some y ≡ coordinate_of b → Some z ≡ coordinate_of c
     → Some (x ∷ y ∷ z ∷ []) ≡ place_of (a ∷ b ∷ c ∷ [])
 unfolding place_of

@@ -1,4 +1,4 @@
--- When each refusal comes.
+-- When each refusal is returned.
 use Rattle.std.proofs.Common.{ℕ, ◌≡◌, ◌≢◌, ◌≤◌, ◌<◌, ◌^◌, Bool, true, false, List, length, refl, ap, arith, lit≤, lit<, subst}
 use Rattle.std.specs.Prelude.{nat_le, is_some, IsSome, Option, Some, None, Result, Ok, Err, codes}
 use Rattle.std.specs.Option.{ok_or}
@@ -29,7 +29,7 @@ settings-within d =
     then 4 6 (required key.Scale (get (name_of key.Scale) d)) _ (some_or 4 6 _ (error.Missing key.Scale) (lit≤ tt) (lit≤ tt)) (λ scale.
     wider 6 6 4 6 (values input scale d) (lit≤ tt) (lit≤ tt) (values-fault input scale d)))
 
--- behind the first required key
+-- after the first required key
 scale-within : (input d : Data) → IsWithin 5 6 (required key.Scale (get (name_of key.Scale) d) >>= λ scale. values input scale d)
 scale-within input d =
     then 5 6 (required key.Scale (get (name_of key.Scale) d)) _ (some_or 5 6 _ (error.Missing key.Scale) (lit≤ tt) (lit≤ tt)) (λ scale.
@@ -64,7 +64,7 @@ not_before low high r e w early is = absurd (omega (arith, w.least e is))
 not_after : {A : Type 0} (low high : ℕ) (r : Result A ConfigError) (e : ConfigError) → IsWithin low high r → high < stage e → r ≢ Err e
 not_after low high r e w late is = absurd (omega (arith, w.most e is))
 
--- ---- a check that fails, and the checks behind one
+-- ---- a check that fails, and the checks after a check
 
 behind_test : {A : Type 0} (f : ConfigError) (test : Bool) (rest : Result A ConfigError) (e : ConfigError) → f ≢ e → (unless_refused f test >>= λ _. rest) ≡ Err e → (test ≡ true) × (rest ≡ Err e)
 behind_test f true rest e h is = (refl, is)
@@ -183,7 +183,7 @@ keys_here bytes e late is =
 keys_back : (bytes : List ℕ) (d : Data) (r : Result Facts ConfigError) → HoldsKeys bytes d → object_reading d ≡ r → reading bytes ≡ r
 keys_back bytes d r k is = text_back bytes d r k.is_text (object_back d r k.is_object (rw k.known is))
 
--- ---- what the settings of an object are refused for
+-- ---- why the settings of an object are refused
 
 settings_here : (d : Data) (e : ConfigError) → error.Threads ≢ e → object_reading d ≡ Err e → settings d ≡ Err e
 unfolding object_reading

@@ -1,4 +1,4 @@
--- An array of another length is not so many whole numbers.
+-- An array of another length is not `count` whole numbers.
 use Rattle.std.proofs.Common.{ℕ, ◌≡◌, ◌<◌, List, length, map, None, arith}
 use Rattle.std.proofs.lemmas.List.{length-map}
 use Rattle.std.proofs.lemmas.Bool.Decides.{nat_tests}

@@ -20,11 +20,11 @@ whole_items d = option_and_then (λ items. if list_all is_whole items then Some 
 unfoldable pub class_of : Data → Option ℕ
 class_of d = option_and_then (natural_within 0 255) (whole d)
 
--- a class with others, of which it is none
+-- a class added to others, if it is not one of them
 unfoldable pub one_more : ℕ → List ℕ → Option (List ℕ)
 one_more class classes = if list_any (λ other. class == other) classes then None else Some (class ∷ classes)
 
--- the classes that items name, where each names one, and none twice
+-- the classes that the items name, if each item names a class, and no class twice
 abbrev pub distinct_classes : List Data → Option (List ℕ)
 distinct_classes [] = Some []
 distinct_classes (d ∷ ds) = do

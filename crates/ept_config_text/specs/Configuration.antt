@@ -48,7 +48,7 @@ work_at d = do
   checkpoint ← natural_at key.Checkpoint 1 (2 ^ 40) 10000000 d
   Ok (record { threads = threads; cache = cache; max_nodes = max_nodes; checkpoint = checkpoint })
 
--- what the keys say, in the order of the keys: each value is of its kind and in its range
+-- what the keys say, in the order of the keys: each value has its type and is in its range
 unfoldable pub values : Data → Data → Data → Result Facts ConfigError
 values input scale_value d = do
   scale ← natural key.Scale 0 9 scale_value
@@ -88,7 +88,7 @@ settings d = do
   scale_value ← required key.Scale (get (name_of key.Scale) d)
   values input scale_value d
 
--- no fewer nodes are kept in memory than there are threads
+-- the number of nodes that are kept in memory is at least the number of threads
 unfoldable pub object_reading : Data → Result Facts ConfigError
 object_reading d = do
   config ← settings d

@@ -26,7 +26,7 @@ expected_bytes text = if list_all is_lower_digit text then result_ok (decode_siz
 unfoldable pub expect_of : Data → Option (List ℕ)
 expect_of d = option_and_then expected_bytes (as_str d)
 
--- what a configuration says of an input, of the right kinds and of any range
+-- what a configuration says of an input: of the right types, and of any range
 pub record InputMembers : Type 0 where
   pub path : List ℕ
   pub scale : Option ℤ
@@ -36,7 +36,7 @@ pub record InputMembers : Type 0 where
 abbrev pub input_keys : List (List ℕ)
 input_keys = codes "path" ∷ codes "scale" ∷ codes "shift" ∷ codes "expect" ∷ []
 
--- the path is there, and the others may be
+-- the path has to be there, and the other members may be
 unfoldable pub path_member : Data → Option (List ℕ)
 path_member d = option_and_then as_str (get (codes "path") d)
 
@@ -61,7 +61,7 @@ input_members d = do
 unfoldable pub input_object : Data → Option InputMembers
 input_object d = if has_only input_keys d then input_members d else None
 
--- a text is its path alone
+-- an input that is a text has only a path
 abbrev pub plain_input : List ℕ → InputMembers
 plain_input path = record { path = path; scale = None; shift = None; expect = None }
 
@@ -69,14 +69,14 @@ plain_input path = record { path = path; scale = None; shift = None; expect = No
 unfoldable pub raw_input : Data → Option InputMembers
 raw_input d = option_or (option_map plain_input (as_str d)) (input_object d)
 
--- an input's own scale is at most the configuration's, and that where it gives none
+-- An input's own scale is at most the configuration's. If it gives none, it has the configuration's.
 unfoldable pub input_scale : ℕ → Option ℤ → Option ℕ
 input_scale scale given = option_map_or (natural_within 0 scale) given (Some scale)
 
 unfoldable pub input_shift : Option (List ℤ) → Option (List ℤ)
 input_shift given = option_map_or (all_within (10 ^ 15)) given (Some (pos 0 ∷ pos 0 ∷ pos 0 ∷ []))
 
--- the input, where each part of it is in its range
+-- the input, if each part of it is in its range
 unfoldable pub input_within : ℕ → InputMembers → Option InputFacts
 input_within scale raw =
     if is_path raw.path

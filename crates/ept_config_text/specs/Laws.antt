@@ -1,4 +1,4 @@
--- When each refusal comes, in words of its own. Each law stands on the contract of a function of `laws`.
+-- When each refusal is returned, without the chain of checks. Each law is a clause of a function of `laws`.
 use Rattle.std.specs.Prelude.{ℕ, ◌≡◌, ◌≤◌, ◌<◌, ◌^◌, ◌↔◌, List, length, true, false, Some, None, IsSome, Ok, Err, codes}
 use Rattle.serde_json.specs.Data.{Data}
 use Rattle.serde_json.specs.Find.{get, as_object}
@@ -47,6 +47,6 @@ ThreadsWhereFewerNodes =
     (bytes : List ℕ)
     → (reading bytes ≡ Err error.Threads) ↔ ((d : Data) × (read : Facts) × HoldsKeys bytes d × (settings d ≡ Ok read) × (read.cache < read.threads))
 
--- what is accepted keeps as many nodes in memory as there are threads
+-- if a text is accepted, the number of nodes in memory is at least the number of threads
 abbrev pub AcceptedHasEnoughNodes : Type 0
 AcceptedHasEnoughNodes = (bytes : List ℕ) (read : Facts) → reading bytes ≡ Ok read → read.threads ≤ read.cache

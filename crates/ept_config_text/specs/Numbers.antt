@@ -10,7 +10,7 @@ unfoldable pub natural_within : ℕ → ℕ → ℤ → Option ℕ
 natural_within least greatest (pos n) = if nat_le least n && nat_le n greatest then Some n else None
 natural_within least greatest (negsuc n) = None
 
--- the spans that a node may have: 2 ^ 1 to 2 ^ 10 cells an axis
+-- the spans that a node may have: 2 ^ 1 to 2 ^ 10 cells on each axis
 abbrev pub spans : List ℕ
 spans = 2 ∷ 4 ∷ 8 ∷ 16 ∷ 32 ∷ 64 ∷ 128 ∷ 256 ∷ 512 ∷ 1024 ∷ []
 
@@ -21,7 +21,7 @@ exponent_of cells = option_map (λ at. at + 1) (position (λ span. span == cells
 unfoldable pub span_exponent : ℤ → Option ℕ
 span_exponent n = option_and_then exponent_of (natural_within 2 1024 n)
 
--- numbers that are at most so far from 0
+-- numbers, each with an absolute value of at most `greatest`
 unfoldable pub all_within : ℕ → List ℤ → Option (List ℤ)
 all_within greatest xs = if list_all (λ x. nat_le (unsigned_abs x) greatest) xs then Some xs else None
 

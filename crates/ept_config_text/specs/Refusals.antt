@@ -7,7 +7,7 @@ use Rattle.ept_json.specs.declared.json_error.JsonError.{JsonError}
 use Rattle.ept_json.specs.declared.json_error.JsonError.TheVariants as json
 use Rattle.ept_config_text.specs.Keys.{name_of}
 
--- what is told where a text has no value
+-- what is returned if a text has no value
 abbrev pub of_json : JsonError → ConfigError
 of_json json.NoText = Json
 of_json json.Memory = Memory
@@ -23,7 +23,7 @@ code_of Threads = 6
 code_of Long = 7
 code_of Memory = 8
 
--- the key that it names
+-- the key that the refusal names
 abbrev pub key_of : ConfigError → Option ConfigKey
 key_of Json = None
 key_of Unknown = None
@@ -34,7 +34,7 @@ key_of Threads = None
 key_of Long = None
 key_of Memory = None
 
--- its name, or a dash
+-- the name of this key, or a dash
 abbrev pub key_text_of : ConfigError → List ℕ
 key_text_of Json = codes "-"
 key_text_of Unknown = codes "-"

@@ -14,7 +14,7 @@ o >>= next = option_and_then next o
 abbrev pub srs_keys : List (List ℕ)
 srs_keys = codes "authority" ∷ codes "horizontal" ∷ codes "vertical" ∷ codes "wkt" ∷ []
 
--- a text that may be absent
+-- a text that may be missing
 unfoldable pub srs_member : List ℕ → Data → Option (Option (List ℕ))
 srs_member name d = if_given as_str (get name d)
 
@@ -30,7 +30,7 @@ srs_members d = do
 unfoldable pub raw_srs : Data → Option SrsFacts
 raw_srs d = if has_only srs_keys d then srs_members d else None
 
--- an absent text fits
+-- a missing text fits
 unfoldable pub fits_srs : Option (List ℕ) → Bool
 fits_srs text = option_map_or is_srs_text text true
 

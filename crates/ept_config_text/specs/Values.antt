@@ -1,4 +1,4 @@
--- The value of each key: its kind is looked at before its range.
+-- The value of each key. Its type is checked before its range.
 use Rattle.std.specs.Prelude.{ℕ, ℤ, Bool, false, pos, ◌^◌, ◌&&◌, nat_le, length, List, [], ◌∷◌, if◌then◌else◌, Option, Some, None, option_map, Result, Ok}
 use Rattle.std.specs.Option.{option_map_or}
 use Rattle.std.specs.List.{list_all}
@@ -43,7 +43,7 @@ bounds d = do
 unfoldable pub srs_text : Option (List ℕ) → Result (Option (List ℕ)) ConfigError
 srs_text text = in_range key.Srs (if fits_srs text then Some text else None)
 
--- the texts, where each of them fits
+-- the texts, if each of them fits
 unfoldable pub srs_texts : SrsFacts → Result SrsFacts ConfigError
 srs_texts raw = do
   authority ← srs_text raw.authority
@@ -63,7 +63,7 @@ input scale d = do
   members ← of_kind key.Input (raw_input d)
   in_range key.Input (input_within scale members)
 
--- the classes that come first: an array of whole numbers, each a class, none twice
+-- the classes that come first: an array of whole numbers, each a class, and no class twice
 unfoldable pub first_classes : Data → Result (ℕ → Bool) ConfigError
 first_classes d = do
   items ← of_kind key.FirstClasses (whole_items d)
@@ -80,7 +80,7 @@ each_input scale (d ∷ ds) = do
 abbrev pub is_input_count : ℕ → Bool
 is_input_count n = nat_le 1 n && nat_le n 65535
 
--- 1 to 65,535 inputs; that all are of the right kind is looked at before any range
+-- 1 to 65,535 inputs; the types of all are checked before any range
 unfoldable pub list_inputs : ℕ → List Data → Result (List InputFacts) ConfigError
 list_inputs scale items = do
   _ ← unless_refused (error.Kind key.Input) (list_all is_input items)
@@ -114,6 +114,6 @@ srs_at top = option_map_or srs (get (name_of key.Srs) top) (Ok no_srs)
 unfoldable pub first_classes_at : Data → Result (ℕ → Bool) ConfigError
 first_classes_at top = option_map_or first_classes (get (name_of key.FirstClasses) top) (Ok (is_listed []))
 
--- withheld points come last where this is true, and are as others
+-- whether withheld points come last, which they do not by default
 unfoldable pub withheld_last_at : Data → Result Bool ConfigError
 withheld_last_at top = option_map_or (λ d. of_kind key.WithheldLast (as_bool d)) (get (name_of key.WithheldLast) top) (Ok false)

@@ -1,4 +1,4 @@
--- The numbers on the machine as the program holds them.
+-- How much of the machine may be used, as the program holds it.
 use Rattle.ept_config_text.specs.declared.work.Work.{Work}
 use Rattle.ept_config_text.specs.Configuration.{WorkFacts}
 

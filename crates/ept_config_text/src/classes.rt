@@ -17,7 +17,7 @@ use serde_json::Value;
 /// The greatest class.
 const MAX_CLASS: u64 = 255;
 
-/// The classes that come first, none where the key is not there.
+/// The classes that come first, or no class if the key is missing.
 #[tactic(auto, unfolding(crate::specs::Values::first_classes_at))]
 pub fn first_classes_at(top: &Value) -> Result<ClassSet, ConfigError>
     ensures ok { IfOk result (λ set. first_classes_at (view top.now) ≡ Ok (has_class set)) }
@@ -60,7 +60,7 @@ fn is_whole(item: &Value) -> bool
     whole(item).is_some()
 }
 
-// The set of the classes that items name, where each names one, and none twice.
+// The set of the classes that the items name, if each item names a class, and no class twice.
 fn distinct_classes(items: &[Value]) -> Option<ClassSet>
     ensures some { IfSome result (λ set.
         option_map is_listed (distinct_classes (map view items.now)) ≡ Some (has_class set)) }
@@ -88,7 +88,7 @@ fn class_of(item: &Value) -> Option<u8>
     Some(class as u8)
 }
 
-/// Whether withheld points come last, as they do not where the key is not there.
+/// Whether withheld points come last. If the key is missing, they do not.
 #[tactic(auto, unfolding(crate::specs::Values::withheld_last_at))]
 pub fn withheld_last_at(top: &Value) -> Result<bool, ConfigError>
     ensures value { result ≡ withheld_last_at (view top.now) }

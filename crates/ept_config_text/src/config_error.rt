@@ -4,19 +4,19 @@ use crate::config_key::ConfigKey;
 use ept_json::JsonError;
 use std::alloc::{AllocError, AllocFailed};
 
-/// Why a text is no configuration. A text is refused for one cause: the first in the order in which
-/// `read_config` looks.
+/// Why a text is no configuration. A text is refused for one cause: the first in the order in which `read_config`
+/// checks.
 #[derive(Clone, Copy, Debug, PartialEq, Eq)]
 pub enum ConfigError {
     /// The bytes are no JSON text.
     Json,
-    /// A key is none of a configuration's.
+    /// A key is not one of a configuration's keys.
     Unknown,
-    /// A key that each configuration has is not there.
+    /// A required key is missing.
     Missing { key: ConfigKey },
-    /// The value of a key is of the wrong kind.
+    /// The value of a key has the wrong type.
     Kind { key: ConfigKey },
-    /// The value of a key is of the right kind and out of its range.
+    /// The value of a key has the right type and is out of its range.
     Range { key: ConfigKey },
     /// Fewer nodes may be kept in memory than there are threads.
     Threads,
@@ -93,7 +93,7 @@ impl ConfigError {
         }
     }
 
-    /// The name of that key, or `-` where there is none.
+    /// The name of that key, or `-` if there is none.
     pub fn key_text(self) -> &'static str
         ensures text { result.now ≡ key_text_of self }
     {

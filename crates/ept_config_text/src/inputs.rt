@@ -85,7 +85,7 @@ fn is_input(value: &Value) -> bool
     raw_input(value).is_some()
 }
 
-/// An input's own scale.
+/// An input's own scale, or the configuration's if none is given.
 #[tactic(auto, unfolding(crate::specs::Inputs::input_scale))]
 fn input_scale(scale: u8, given: Option<i128>) -> Option<u8>
     ensures value { result ≡ input_scale scale given }
@@ -133,7 +133,7 @@ fn input_within(alloc: Global, scale: u8, raw: &RawInput) -> Result<Input, Confi
     })
 }
 
-// One input, by itself.
+// One input.
 #[tactic(auto, unfolding(crate::specs::Values::input))]
 fn input_of(alloc: Global, scale: u8, value: &Value) -> Result<Input, ConfigError>
     requires { scale ≤ 9 }
@@ -164,7 +164,7 @@ fn one_input(alloc: Global, scale: u8, value: &Value) -> Result<List<Input>, Con
     Ok(List::of(list))
 }
 
-// As many inputs as there are items.
+// The inputs of the items, one for each.
 fn inputs_of(alloc: Global, scale: u8, items: &[Value]) -> Result<List<Input>, ConfigError>
     requires { scale ≤ 9 }
     ensures ok { IfOk result (λ list. each_input scale (map view items.now)

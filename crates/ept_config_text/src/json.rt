@@ -1,4 +1,4 @@
-//! What a JSON value is read as. `specs/Json.antt` has the same words.
+//! What a JSON value is read as. `specs/Json.antt` has definitions of the same names.
 
 ghost use Rattle.std.specs.Prelude.{◌≡◌, map, option_map, string_bytes};
 ghost use Rattle.std.specs.List.{list_all, list_any};
@@ -10,7 +10,7 @@ ghost use Rattle.ept_config_text.specs.Json.{whole, wholes, wholes_of, array_ite
 
 use serde_json::{Map, Number, Value};
 
-/// A whole number of 64 bits, with a sign or without.
+/// A whole number of 64 bits, signed or unsigned.
 #[tactic(auto, unfolding(crate::specs::Json::whole))]
 pub fn whole(value: &Value) -> Option<i128>
     ensures { result ≡ whole (view value.now) }
@@ -72,7 +72,7 @@ fn six_of(items: &[Value]) -> Option<[i128; 6]>
     ])
 }
 
-/// Whether the value is an object without other keys than these.
+/// Whether the value is an object that has no keys except these.
 #[tactic(auto, unfolding(crate::specs::Json::has_only))]
 pub fn has_only(keys: &[&str], value: &Value) -> bool
     ensures { result ≡ has_only (map (λ key. key.now) keys.now) (view value.now) }

@@ -52,7 +52,7 @@ fn place_among_spans(cells: u64) -> Option<usize>
     SPANS.iter().position(|span| *span == cells)
 }
 
-/// Three numbers that are at most so far from 0.
+/// Three numbers, if the absolute value of each is at most `greatest`.
 #[tactic(auto, unfolding(crate::specs::Numbers::all_within))]
 pub fn three_within(greatest: u64, numbers: [i128; 3]) -> Option<[i64; 3]>
     requires { greatest ≤ 9223372036854775807 }
@@ -79,8 +79,8 @@ fn within(greatest: u64, n: i128) -> Option<i64>
     }
 }
 
-/// The box from a least place to a greatest one, six numbers, where each fits 32 bits and the least
-/// place is at most the greatest one on each axis.
+/// The bounds of six numbers: a least place and then a greatest one. Each number has to fit into 32 bits, and the least
+/// place has to be at most the greatest one on each axis.
 #[tactic(auto, unfolding(crate::specs::Numbers::bounds_within), using(crate::proofs::Signed::signed))]
 pub fn bounds_within(numbers: [i128; 6]) -> Option<Bounds>
     ensures value { result ≡ bounds_within numbers }
@@ -103,7 +103,7 @@ fn bounds_between(min: [i32; 3], max: [i32; 3]) -> Option<Bounds>
     }
 }
 
-// Three coordinates of 32 bits.
+// Three coordinates, if each number fits into 32 bits.
 #[tactic(auto, unfolding(crate::specs::Numbers::place_of), using(crate::proofs::Signed::signed))]
 fn place_of(numbers: [i128; 3]) -> Option<[i32; 3]>
     ensures value { result ≡ place_of numbers }

@@ -1,4 +1,4 @@
-//! What a configuration says of an input, before its ranges are looked at.
+//! What a configuration says of an input, before its ranges are checked.
 
 ghost use Rattle.std.specs.Prelude.{◌≡◌, option_map, IfSome};
 ghost use Rattle.std.specs.Option.{ForSome};
@@ -12,7 +12,7 @@ use crate::json::{has_only, three_wholes, whole};
 use ept_config::EXPECT_WIDTH;
 use serde_json::Value;
 
-/// The members of an input: of the right kinds, and of any range.
+/// The members of an input. They have the right types, and may be out of range.
 #[derive(Drop)]
 pub struct RawInput<'a> {
     pub path: &'a str,
@@ -21,7 +21,7 @@ pub struct RawInput<'a> {
     pub expect: Option<[u8; EXPECT_WIDTH]>,
 }
 
-/// The members of an input, which is a text or an object.
+/// The members of an input, which has to be a text or an object.
 #[tactic(auto, unfolding(crate::specs::Inputs::raw_input))]
 pub fn raw_input(value: &Value) -> Option<RawInput<'_>>
     ensures value { option_map members_of result ≡ raw_input (view value.now) }
@@ -74,7 +74,7 @@ fn path_member(object: &Value) -> Option<&str>
     object.get("path").and_then(Value::as_str)
 }
 
-// A member that may be absent: `None` where it is there and of the wrong kind.
+// A member that may be missing. The result is `None` if the member is there and has the wrong type.
 #[tactic(auto, unfolding(crate::specs::Inputs::scale_member))]
 fn scale_member(object: &Value) -> Option<Option<i128>>
     ensures { result ≡ scale_member (view object.now) }

@@ -43,21 +43,27 @@ const KEYS: [&str; 15] = [
     "checkpoint",
 ];
 
-/// Reads a configuration from its JSON text, which is an object.
+/// Reads a configuration from its JSON text, which has to be an object.
 ///
-/// `input` and `scale` are required, and each other key has a default. An input is a text, its path, or
-/// an object of `path` and, if they are given, `scale`, `shift` and `expect`. A whole number is written
-/// without a fraction or an exponent and fits 64 bits. Of a key that stands twice the last counts.
+/// `input` and `scale` are required, and each other key has a default. An input is a text, its path, or an object of
+/// `path` and, if they are given, `scale`, `shift` and `expect`. A whole number is written without a fraction or an
+/// exponent and fits into 64 bits. If a key is there twice, the last value counts.
 ///
 /// # Errors
 ///
-/// The first check that fails: `Long` where there are more than `MAX_LENGTH` bytes, `Json` where they
-/// are the text of no JSON value, `Kind` of `Top` where the value is no object, `Unknown` where it has
-/// another key, `Missing` for `input` and then for `scale`, then `Kind` before `Range` for `scale` and
-/// then for each key in the order `input`, `offset`, `bounds`, `span`, `minNodeSize`, `maxDepth`,
-/// `hierarchyStep`, `srs`, `firstClasses`, `withheldLast`, `threads`, `cacheSize`, `maxNodes`,
-/// `checkpoint`, and at last `Threads` where `cacheSize` is below `threads`. `Memory` may come at any
-/// place.
+/// The first check that fails:
+///
+/// - `Long` if there are more than `MAX_LENGTH` bytes.
+/// - `Json` if they are not the text of a JSON value.
+/// - `Kind` of `Top` if the value is no object.
+/// - `Unknown` if the object has another key.
+/// - `Missing` for `input`, and then for `scale`.
+/// - `Kind` before `Range` for `scale`, and then for each other key in this order: `input`, `offset`, `bounds`, `span`,
+///   `minNodeSize`, `maxDepth`, `hierarchyStep`, `srs`, `firstClasses`, `withheldLast`, `threads`, `cacheSize`,
+///   `maxNodes`, `checkpoint`.
+/// - `Threads` if `cacheSize` is below `threads`.
+///
+/// `Memory` may come at any place.
 #[tactic(auto, unfolding(crate::specs::Configuration::reading))]
 pub fn read_config(alloc: Global, bytes: &[u8]) -> Result<Config, ConfigError>
     ensures ok { IfOk result (λ config. reading bytes.now ≡ Ok (facts config)) }
@@ -76,11 +82,12 @@ fn has_known_keys(top: &Value) -> bool
     has_only(&KEYS, top)
 }
 
-/// Reads a configuration from its JSON value, as [`read_config`] reads its text, however long that was.
+/// Reads a configuration from its JSON value, as [`read_config`] reads it from its text. The text may have had any
+/// length.
 ///
 /// # Errors
 ///
-/// Those of [`read_config`] but for `Long` and `Json`.
+/// Those of [`read_config`] except `Long` and `Json`.
 #[tactic(auto, unfolding(crate::specs::Configuration::value_reading))]
 pub fn read_value(alloc: Global, top: &Value) -> Result<Config, ConfigError>
     ensures ok { IfOk result (λ config. value_reading (view top.now) ≡ Ok (facts config)) }

@@ -26,7 +26,7 @@ pub struct RawSrs<'a> {
     pub wkt: Option<&'a str>,
 }
 
-/// The spatial reference, which has no texts where it is not there.
+/// The spatial reference. It has no texts if the key is missing.
 #[tactic(auto, unfolding(crate::specs::Values::srs_at))]
 pub fn srs_at(alloc: Global, top: &Value) -> Result<Srs, ConfigError>
     ensures ok { IfOk result (λ texts. srs_at (view top.now) ≡ Ok (srs_facts texts)) }
@@ -80,7 +80,7 @@ fn srs_members(object: &Value) -> Option<RawSrs<'_>>
     })
 }
 
-// A text that may be absent: `None` where it is there and no text.
+// A text that may be missing. The result is `None` if the member is there and is no text.
 #[tactic(auto, unfolding(crate::specs::SrsTexts::srs_member))]
 fn srs_member<'a>(object: &'a Value, name: &str) -> Option<Option<&'a str>>
     ensures { option_map (λ text. option_map (λ t. t.now) text) result

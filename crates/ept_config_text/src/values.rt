@@ -1,4 +1,4 @@
-//! The value of each key: its kind is looked at before its range.
+//! The value of each key. Its type is checked before its range.
 
 ghost use Rattle.std.specs.Prelude.{◌≡◌, ◌≤◌, ◌^◌, IfOk};
 ghost use Rattle.serde_json.specs.View.{view};
@@ -25,7 +25,7 @@ pub fn natural(key: ConfigKey, least: u64, greatest: u64, value: &Value) -> Resu
     natural_within(least, greatest, n).ok_or(ConfigError::Range { key })
 }
 
-/// The same of a key of the top object, or the default where it is not there.
+/// The number of a key of the top object, or the default if the key is missing.
 #[tactic(auto, unfolding(crate::specs::Values::natural_at))]
 pub fn natural_at(
     key: ConfigKey,

@@ -12,7 +12,7 @@ use crate::values::natural_at;
 use ept_config::{MAX_CACHE, MAX_CHECKPOINT, MAX_NODES, MAX_THREADS};
 use serde_json::Value;
 
-/// How much of the machine a configuration allows. That `cache` is at least `threads` is not kept here.
+/// How much of the machine a configuration allows. This type does not keep that `cache` is at least `threads`.
 #[derive(Drop)]
 pub struct Work {
     pub threads: u32,

@@ -43,11 +43,11 @@ module _ (step : ℕ) (n : Node) (above : VoxelKey) (at : above ≡ file_above s
     elsewhere = other_file;
   }
 
-  -- where the file is there
+  -- if the file is there
   pub added-there : (es : List OpenFile) (old new : List ℕ) (number : Option ℕ) → number ≡ cond (has_file step n.0) None (Some n.1) → new ≡ text_with old n.0 (number_of number) → Some old ≡ lookup (is_at (key_cmp above)) es → IsStrictlySortedBy key_cmp (keys_of es) → set_value (is_at (key_cmp above)) es new ≡ map (with_entry step n) es
   added-there es old new number is more found up =
       set_value-changes (with_entry step n) above old new es (changed old new number is more) up (sym found)
 
-  -- where it is not
+  -- if the file is not there
   pub added-nowhere : (es : List OpenFile) → None ≡ lookup (is_at (key_cmp above)) es → es ≡ map (with_entry step n) es
   added-nowhere es none = sym (absent-same (with_entry step n) above es other_file (sym none))

@@ -29,14 +29,14 @@ ascend-at nodes i j d up before inside =
 low_take : (i : ℕ) (nodes : List Node) (j : ℕ) → j < length (take i nodes) → j < i
 low_take i nodes j low = let at = length-take i nodes in omega (arith, low, at)
 
--- the nodes in front of one stand before it
+-- the nodes before a node have smaller keys
 in-front : (nodes : List Node) (i : ℕ) (n : Node) → KeysAscend nodes → i < length nodes → n ≡ get_or nodes i n → All (λ (m : Node). key_cmp m.0 n.0 ≡ Less) (take i nodes)
 in-front nodes i n up inside is =
     All-from_get_or (λ (m : Node). key_cmp m.0 n.0 ≡ Less) (take i nodes) n (λ j low.
     let below : j < i = low_take i nodes j low in
     subst (λ (m : Node). key_cmp m.0 n.0 ≡ Less) (sym (get_or-take i nodes j n below)) (subst (λ (m : Node). key_cmp (get_or nodes j n).0 m.0 ≡ Less) (sym is) (ascend-at nodes j i n up below inside)))
 
--- one more turn
+-- one more turn of the loop
 pub open_files-more : (step : ℕ) (nodes : List Node) (i : ℕ) (n : Node) (files new : List OpenFile) → KeysAscend nodes → i < length nodes → n ≡ get_or nodes i n → files ≡ open_files step (take i nodes) → new ≡ with_node step n files → new ≡ open_files step (take (i + 1) nodes)
 open_files-more step nodes i n files new up inside is before after =
     after
@@ -48,7 +48,7 @@ closed-is : (step : ℕ) (nodes : List Node) (n : Node) → closed (n.0, open_te
 unfolding open_text hierarchy_text
 closed-is step nodes n = refl
 
--- the files with their ends
+-- the files with the braces that end them
 pub closed-files : (step : ℕ) (nodes : List Node) (files : List OpenFile) (i : ℕ) → i ≡ length nodes → files ≡ open_files step (take i nodes) → map closed files ≡ hierarchy step nodes
 unfolding open_files hierarchy
 closed-files step nodes files i end is =

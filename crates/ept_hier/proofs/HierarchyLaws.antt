@@ -1,4 +1,4 @@
--- In which file the count of a node stands.
+-- The file that has the count of a node.
 use Rattle.std.proofs.Common.{◌≡◌, ◌∙◌, ℕ, zero, suc, ◌+◌, ◌-◌, ◌*◌, ◌/◌, ◌%◌, ◌<◌, ◌≤◌, true, false, ◌&&◌, ◌==◌, nat_lt, inl, inr, List, refl, sym, ap, subst, arith}
 use Rattle.std.specs.List.{Contains}
 use Rattle.std.proofs.lemmas.Bool.{false≢true}
@@ -64,12 +64,12 @@ above-there : (step : ℕ) (nodes : List Node) (key : VoxelKey) → HaveParents 
 above-there step nodes key above here =
     subst (λ k. Contains (keys_of nodes) k) (parents-ancestor (key.depth - file_depth step key.depth) key ∙ above_as step key) (parents-there nodes key (key.depth - file_depth step key.depth) above here (omega arith))
 
--- ---- one file tells each count
+-- ---- one file has each count
 
 another : (a b : VoxelKey) → same_key a b ≡ false → ¬ (a ≡ b)
 another a b apart same = false≢true (sym apart ∙ same_key-same a b same)
 
--- a file that tells the count of a node is its own, or the one above it where it has none
+-- a file that has the count of a node is its own, or the file above it if it has none
 tells-above : (step : ℕ) (other key : VoxelKey) → TellsCount step other key → ¬ (other ≡ key) → (other ≡ file_above step key) × (0 < key.depth)
 tells-above step other key h apart =
     let both = and_true (nat_lt 0 key.depth) (same_key other (file_above step key)) (sym (stands-above step other key h.file apart) ∙ h.stands) in

@@ -1,4 +1,4 @@
--- In which file a node stands beside its own.
+-- The file above a node, which has an entry of the node and is not the node's own.
 use Rattle.std.proofs.Common.{◌≡◌, ◌∙◌, ℕ, zero, suc, ◌+◌, ◌-◌, ◌*◌, ◌/◌, ◌%◌, ◌^◌, ◌<◌, ◌≤◌, Bool, true, false, cond, ◌&&◌, ◌||◌, ◌==◌, nat_le, nat_lt, ◌⊎◌, inl, inr, refl, sym, ap, subst, arith}
 use Rattle.std.proofs.lemmas.Bool.{false≢true}
 use Rattle.std.proofs.lemmas.Bool.Decides.{nat_tests}
@@ -106,9 +106,9 @@ pub is_false : (b : Bool) → (b ≡ true → ⊥) → b ≡ false
 is_false true h = absurd (h refl)
 is_false false h = refl
 
--- ---- standing in a file
+-- ---- being in a file
 
--- the file is that of `top`, or its depths go on to the key's
+-- with step 0 the file has all depths, otherwise its depths reach that of the key
 abbrev Reaches : ℕ → VoxelKey → VoxelKey → Type 0
 Reaches step top key = ((step == 0) || nat_le key.depth (top.depth + step)) ≡ true
 
@@ -131,7 +131,7 @@ quotient d step q top is above below =
     let found : (d - 1) / step ≡ q = ap (λ n. n / step) (sym whole) ∙ div-mul-add q step (d - 1 - top) rest in
     ap (λ n. n * step) found ∙ is
 
--- a file in which a deeper node stands has the depth of the file above the node
+-- a file that has a deeper node has the depth of the file above the node
 level_of : (step : ℕ) (top key : VoxelKey) → has_file step top ≡ true → top.depth < key.depth → Reaches step top key → top.depth ≡ file_depth step key.depth
 level_of step top key file deeper reach =
     elim (either (step == 0)) [
@@ -157,7 +157,7 @@ reaches-above step key deep =
           ap (λ b. b || nat_le key.depth ((file_above step key).depth + step)) e ∙ (let t : nat_le key.depth ((file_above step key).depth + step) ≡ true = grind (arith, nat_tests) in t)
     ]
 
--- in which file a node stands beside its own
+-- a file that is not a node's own has the node if and only if it is the file above it
 pub stands-above : (step : ℕ) (top key : VoxelKey) → has_file step top ≡ true → ¬ (top ≡ key) → stands_in step top key ≡ (nat_lt 0 key.depth && same_key top (file_above step key))
 stands-above step top key file other =
     same_test (stands_in step top key) (nat_lt 0 key.depth && same_key top (file_above step key)) (λ stands.
@@ -179,7 +179,7 @@ stands-above step top key file other =
           | inr e ↦ absurd (other (is_within-level top key within (grind (arith, nat_tests))))
         ]
 
--- each node with a file stands in it
+-- each node with a file is in it
 pub stands-self : (step : ℕ) (key : VoxelKey) → stands_in step key key ≡ true
 stands-self step key = stands-from step key key (is_within-self key) (reach (step == 0))
   where
@@ -190,7 +190,7 @@ stands-self step key = stands-from step key key (is_within-self key) (reach (ste
 differ : Less ≡ Equal → ⊥
 differ e = cc
 
--- two keys in order are two
+-- two keys in order differ
 pub before-other : (a b : VoxelKey) → key_cmp a b ≡ Less → ¬ (a ≡ b)
 before-other a b less same = differ (sym less ∙ key_cmp-same a b same)
 
@@ -198,7 +198,7 @@ depth-before : (a b : VoxelKey) → IsBefore a b → a.depth ≤ b.depth
 depth-before a b (inl less) = omega (arith, less)
 depth-before a b (inr h) = let same = h.0 in omega (arith, same)
 
--- no node stands in the file of one behind it
+-- no node is in the file of a node after it
 pub stands-behind : (step : ℕ) (a b : VoxelKey) → key_cmp a b ≡ Less → stands_in step b a ≡ false
 stands-behind step a b less =
     is_false (stands_in step b a) (λ stands.
@@ -233,7 +233,7 @@ pub link_as : (step : ℕ) (top key : VoxelKey) → (nat_lt 0 step && (key.depth
 unfolding is_link
 link_as step top key = refl
 
--- in the file above it, a node is a link where it has a file of its own
+-- in the file above it, a node is a link if it has a file of its own
 pub link-above : (step : ℕ) (key : VoxelKey) → 0 < key.depth → is_link step (file_above step key) key ≡ has_file step key
 link-above step key deep =
     elim (either (step == 0)) [

@@ -53,7 +53,7 @@ filter-none p (y ∷ ys) none =
 
 -- ---- texts joined
 
--- one more text behind others
+-- one more text after others
 pub join_by-more : {X A : Type 0} (f : X → List A) (sep : List A) (xs : List X) (y : X) → 0 < length xs → join_by f sep (xs ++ y ∷ []) ≡ join_by f sep xs ++ (sep ++ f y)
 join_by-more f sep [] y some = absurd (omega (arith, some))
 join_by-more f sep (x ∷ xs) y some =
@@ -62,14 +62,14 @@ join_by-more f sep (x ∷ xs) y some =
 
 -- ---- maps
 
--- an entry put behind all others
+-- an entry put after all others
 pub insert_entry-last : (es : List OpenFile) (k : VoxelKey) (v : List ℕ) → All (λ (e : OpenFile). key_cmp k e.0 ≡ Greater) es → insert_entry key_cmp es k v ≡ es ++ (k, v) ∷ []
 insert_entry-last [] k v above = refl
 insert_entry-last (e ∷ es) k v above =
     ap (λ o. match_ordering o ((k, v) ∷ e ∷ es) ((e.0, v) ∷ es) (e ∷ insert_entry key_cmp es k v)) (All-head (λ (x : OpenFile). key_cmp k x.0 ≡ Greater) e es above)
     ∙ ap (λ (w : List OpenFile). e ∷ w) (insert_entry-last es k v (All-tail (λ (x : OpenFile). key_cmp k x.0 ≡ Greater) e es above))
 
--- a function that changes the file of one key alone
+-- a function that changes only the file of one key
 pub record Changes (f : OpenFile → OpenFile) (k : VoxelKey) (old new : List ℕ) : Type 0 where
   pub there : f (k, old) ≡ (k, new)
   pub elsewhere : (e : OpenFile) → ¬ (e.0 ≡ k) → f e ≡ e
@@ -87,7 +87,7 @@ less_equal e = cc
 greater_equal : Greater ≡ Equal → ⊥
 greater_equal e = cc
 
--- the keys behind one are others
+-- the keys after a key differ from it
 others : (k j : VoxelKey) (ks : List VoxelKey) → k ≡ j → All (λ q. key_cmp j q ≡ Less) ks → All (λ q. ¬ (q ≡ k)) ks
 others k j ks same after =
     All-weaker (λ q. key_cmp j q ≡ Less) (λ q. ¬ (q ≡ k)) (λ q h is. less_equal (sym h ∙ key_cmp-same j q (sym (is ∙ same)))) ks after

@@ -1,4 +1,4 @@
--- The members of an object, as the map of them has them, and why they are refused.
+-- The members of an object, as its map has them, and why they are refused.
 use Rattle.std.proofs.Common.{◌≡◌, ◌≢◌, ◌∙◌, ℕ, Bool, true, false, ◌&&◌, List, [], ◌∷◌, ◌++◌, map, refl, sym, ap, subst, arith, inl, inr, Some, None, String, Global, string_bytes}
 use Rattle.std.specs.Prelude.{Result, Ok, Err, IsOk, OnOk, IfErr, ◌⊎◌}
 use Rattle.std.specs.Option.{option_map, option_and_then}
@@ -41,7 +41,7 @@ members-unread bytes none = ap (λ o. option_map member_list (option_and_then as
 some_none : {X : Type 0} {x : X} → Some x ≡ None → ⊥
 some_none e = cc
 
--- ---- some member
+-- ---- a member
 
 some_of : {X : Type 0} (P : X → Type 0) (xs : List X) (x : X) → Contains xs x → P x → Any P xs
 some_of P xs x there holds = (there.0, x, there.1, there.2, holds)
@@ -56,7 +56,7 @@ some_after P xs x ys holds =
 
 -- ---- members, while they are read
 
--- what says entries has keys' names, and counts
+-- members with entries have counts, and texts of keys as names
 pub said_names : (members : List Member) (entries : List Entry) → AllZip IsEntryOf members entries → All (λ (m : Member). NamesKey m.0) members
 said_names [] entries each = All-nil (λ (m : Member). NamesKey m.0)
 said_names (m ∷ members) [] each = absurd each
@@ -101,7 +101,7 @@ taken_all all front back b entries whole none lost taken =
 
 -- ---- refusals
 
--- a name is no key's
+-- a name is not the text of a key
 pub refuses_name : (all front : List (String Global × Value)) (x : String Global × Value) (back : List (String Global × Value)) (name : List ℕ) (error : HierError) → all ≡ front ++ x ∷ back → name ≡ string_bytes x.0 → RefusesName name error → RefusesMembers (map member_at all) error
 refuses_name all front x back name Json is named refused = absurd refused
 refuses_name all front x back name Key is named refused =
@@ -123,12 +123,12 @@ refuses bytes members Key is h = (members, is, h)
 refuses bytes members Count is h = (members, is, h)
 refuses bytes members Memory is h = tt
 
--- a text that is no object's
+-- a text that is not that of an object
 pub refuses_json : (bytes : List ℕ) (error : JsonError) → (error ≡ json.NoText → document bytes ≡ None) → RefusesFile bytes (of_json error)
 refuses_json bytes json.Memory h = tt
 refuses_json bytes json.NoText h = members-unread bytes (h refl)
 
--- ---- one answer fits
+-- ---- one result fits
 
 one_list : (bytes : List ℕ) (a b : List Member) → members_in bytes ≡ Some a → members_in bytes ≡ Some b → a ≡ b
 one_list bytes a b is_a is_b = let e : Some a ≡ Some b = sym is_a ∙ is_b in cc
@@ -170,7 +170,7 @@ told : (e error : HierError) → (e ≡ error) ⊎ (e ≡ Memory) → (refusal e
 told e error (inl same) = inl (ap Err same)
 told e error (inr memory) = inr (ap Err memory)
 
--- so where there is a cause, that refusal comes, and where there is a reading, none
+-- so if there is a cause, that refusal is returned, and if there is a reading, no refusal
 pub comes : (bytes : List ℕ) (result : Result (Unit {0}) HierError) → OnOk result ((entries : List Entry) × IsReading bytes entries) → IfErr result (RefusesFile bytes) → (error : HierError) → error ≢ Memory → RefusesFile bytes error → (result ≡ Err error) ⊎ (result ≡ Err Memory)
 comes bytes (Ok done) ok refused error definite cause = absurd (read_not_refused bytes ok.0 error ok.1 cause definite)
 comes bytes (Err e) ok refused error definite cause = told e error (one_cause bytes e error refused cause definite)

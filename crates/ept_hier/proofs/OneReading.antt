@@ -25,9 +25,9 @@ use Rattle.ept_space.proofs.KeyOrder.{key_cmp_total, key_cmp-equal, key_cmp-same
 use Rattle.ept_hier.specs.Hierarchy.{Entry}
 use Rattle.ept_hier.specs.Reading.{Member, member_list, members_in, IsEntryOf, IsReading}
 
--- ---- of an object that is read the names rise, so no two are one
+-- ---- the names of an object that is read ascend, so no two are the same
 
--- a name stands before those of the members
+-- a name comes before those of the members
 abbrev IsFirst : List ℕ → Members → Type 0
 IsFirst k no_members = ⊤
 IsFirst k (member l d ms) = (slice_cmp nat_cmp k l ≡ Less) × IsFirst k ms
@@ -120,7 +120,7 @@ document_rises : (bytes : List ℕ) → ReadRises (document bytes)
 unfolding document
 document_rises bytes = test_rises (is_utf8 bytes) (read bytes) (read_rises bytes)
 
--- no two members have one name
+-- no two members have the same name
 abbrev NamesApart : List Member → Type 0
 NamesApart [] = ⊤
 NamesApart (m ∷ ms) = All (λ (x : Member). m.0 ≢ x.0) ms × NamesApart ms
@@ -150,7 +150,7 @@ members_apart : (bytes : List ℕ) (ms : List Member) → members_in bytes ≡ S
 unfolding members_in
 members_apart bytes ms is = found_apart (document bytes) ms (document_rises bytes) is
 
--- ---- members say one list of entries
+-- ---- members have one list of entries
 
 one_entry : (m : Member) (e f : Entry) → IsEntryOf m e → IsEntryOf m f → e ≡ f
 one_entry m e f is_e is_f =
@@ -167,7 +167,7 @@ one_said (m ∷ ms) [] ys first second = absurd first
 one_said (m ∷ ms) (x ∷ xs) [] first second = absurd second
 one_said (m ∷ ms) (x ∷ xs) (y ∷ ys) first second = λ i. one_entry m x y first.0 second.0 i ∷ one_said ms xs ys first.1 second.1 i
 
--- ---- one key has one entry among them
+-- ---- a key has one entry among them
 
 key_apart : (m : Member) (e : Entry) (ms : List Member) (es : List Entry) → IsEntryOf m e → AllZip IsEntryOf ms es → All (λ (x : Member). m.0 ≢ x.0) ms → All (λ (f : Entry). e.0 ≢ f.0) es
 key_apart m e [] [] is each apart = All-nil (λ (f : Entry). e.0 ≢ f.0)
@@ -198,9 +198,9 @@ one_each (m ∷ ms) (x ∷ es) apart each =
       | inr later ↦ elim (among x es f there') [ inl is' ↦ absurd (apart_from x e es away later (ap (λ (w : Entry). w.0) is' ∙ sym same)) | inr later' ↦ one_each ms es apart.1 each.1 e f later later' same ]
     ]
 
--- ---- sorted lists with the same entries are one
+-- ---- sorted lists with the same entries are the same
 
--- how often a key stands there
+-- 1 if the entry has the key, otherwise 0
 once_at : VoxelKey → Entry → ℕ
 once_at key e = cond (is_eq (key_cmp key e.0)) 1 0
 
@@ -212,7 +212,7 @@ counted_sum : (key : VoxelKey) (es : List Entry) → counted key es ≡ sum_by (
 counted_sum key [] = refl
 counted_sum key (e ∷ es) = ap (λ n. once_at key e + n) (counted_sum key es) ∙ sym (sum_by-cons (once_at key) e es)
 
--- no later entry stands before an earlier one
+-- no later entry comes before an earlier one
 abbrev InOrder : List Entry → Type 0
 InOrder es = (i j : ℕ) (d : Entry) → i ≤ j → j < length es → is_lt (key_cmp (get_or es j d).0 (get_or es i d).0) ≡ false
 
@@ -238,14 +238,14 @@ counted_itself : (e : Entry) (es : List Entry) → counted e.0 (e ∷ es) ≡ 1 
 unfolding once_at
 counted_itself e es = ap (λ o. cond (is_eq o) 1 0 + counted e.0 es) (key_cmp-same e.0 e.0 refl)
 
--- two keys of which neither stands before the other are one
+-- two keys are the same if neither comes before the other
 neither_before : (o : Ordering) (a b : VoxelKey) → key_cmp a b ≡ o → is_lt (key_cmp a b) ≡ false → is_lt (key_cmp b a) ≡ false → a ≡ b
 neither_before Less a b is first second = let less : is_lt (key_cmp a b) ≡ true = ap is_lt is in let e : true ≡ false = sym less ∙ first in absurd (cc)
 neither_before Equal a b is first second = key_cmp-equal a b is
 neither_before Greater a b is first second =
     let less : is_lt (key_cmp b a) ≡ true = ap is_lt (key_cmp_total.antisymm b a ∙ ap ordering_reverse is) in let e : true ≡ false = sym less ∙ second in absurd (cc)
 
--- the head of a sorted list does not stand behind an entry of it
+-- no entry of a sorted list comes before its head
 head_first : (x : Entry) (xs : List Entry) (f : Entry) → InOrder (x ∷ xs) → Contains (x ∷ xs) f → is_lt (key_cmp f.0 x.0) ≡ false
 head_first x xs f up there =
     subst (λ (w : Entry). is_lt (key_cmp w.0 x.0) ≡ false) there.2 (up 0 there.0 f (omega arith) there.1)

@@ -46,7 +46,7 @@ use Rattle.ept_hier.specs.Hierarchy.{Entry, Node, keys_of, has_file, stands_in, 
 use Rattle.ept_hier.specs.Reading.{Member, member_list, members_in, number_in, IsEntryOf, IsReading}
 use Rattle.ept_hier.specs.ReadingLaws.{IsEntry}
 
--- ---- the text of a key stands as it is in a string
+-- ---- the text of a key is unchanged in a string
 
 -- a digit or a dash
 abbrev IsOfKey : ℕ → Type 0
@@ -207,7 +207,7 @@ placed_all_put : (es found : List Entry) → members_of (place_all es found) ≡
 placed_all_put [] found = refl
 placed_all_put (e ∷ es) found = placed_all_put es (place e found) ∙ ap (put_all es) (placed_put e found)
 
--- no key of these is that one
+-- no key of these is this one
 abbrev IsNew : VoxelKey → List Entry → Type 0
 IsNew key es = All (λ (f : Entry). key_text key ≢ key_text f.0) es
 
@@ -222,7 +222,7 @@ place_permutes e [] new = IsPermutation-refl (e ∷ [])
 place_permutes e (f ∷ es) new =
     chosen_permutes (slice_cmp nat_cmp (key_text e.0) (key_text f.0)) e f es (place e es) refl (All-head (λ (g : Entry). key_text e.0 ≢ key_text g.0) f es new) (place_permutes e es (All-tail (λ (g : Entry). key_text e.0 ≢ key_text g.0) f es new))
 
--- these have keys of different texts, each of all later ones
+-- these have keys with texts that differ from those of all later ones
 abbrev AreNew : List Entry → Type 0
 AreNew [] = ⊤
 AreNew (e ∷ es) = IsNew e.0 es × AreNew es
@@ -252,7 +252,7 @@ placed_all : (es : List Entry) → AreNew es → IsPermutation (place_all es [])
 placed_all es apart =
     IsPermutation-sym es (place_all es []) (subst (λ (w : List Entry). IsPermutation w (place_all es [])) (append-nil es) (place_all_permutes es [] apart (none_found es)))
 
--- ---- what the members say
+-- ---- the entries of the members
 
 number_said : (e : Entry) → IsEntry e → number_in (value_of e.1) ≡ Some e.1
 unfolding number_in

@@ -74,7 +74,7 @@ text-new step ns n before =
 -- ---- the files
 
 module _ (step : ℕ) (ns : List Node) (n : Node) (before : All (λ (m : Node). key_cmp m.0 n.0 ≡ Less) ns) where
-  -- a file as it is with the new node
+  -- a file after the new node is added
   abbrev made : Node → OpenFile
   made m = (m.0, open_text step (ns ++ n ∷ []) m.0)
 
@@ -84,14 +84,14 @@ module _ (step : ℕ) (ns : List Node) (n : Node) (before : All (λ (m : Node). 
   abbrev filed : Node → Bool
   filed m = has_file step m.0
 
-  -- what is known of each node in front
+  -- what is known of each node before the new one
   front : All (λ (m : Node). Contains ns m × (key_cmp m.0 n.0 ≡ Less)) ns
   front = λ k d low. (All-contains_itself ns k d low, before k d low)
 
   choose : (m : Node) (b c : Bool) → b ≡ c → (let x : OpenFile = (m.0, cond b (text_with (open_text step ns m.0) n.0 (cond (is_link step m.0 n.0) (negsuc 0) (pos n.1))) (open_text step ns m.0)) in x) ≡ (m.0, cond c (text_with (open_text step ns m.0) n.0 (cond (is_link step m.0 n.0) (negsuc 0) (pos n.1))) (open_text step ns m.0))
   choose m b c e = ap (λ (t : Bool). let x : OpenFile = (m.0, cond t (text_with (open_text step ns m.0) n.0 (cond (is_link step m.0 n.0) (negsuc 0) (pos n.1))) (open_text step ns m.0)) in x) e
 
-  -- a file with the new node, by whether it is the one above it
+  -- a file with the new node, depending on whether it is the file above it
   made-is : (m : Node) (b : Bool) → Contains ns m → stands_in step m.0 n.0 ≡ b → (let x : OpenFile = (m.0, cond b (text_with (open_text step ns m.0) n.0 (cond (is_link step m.0 n.0) (negsuc 0) (pos n.1))) (open_text step ns m.0)) in x) ≡ made m
   made-is m b here is =
       choose m b (stands_in step m.0 n.0) (sym is) ∙ ap (λ (t : List ℕ). let x : OpenFile = (m.0, t) in x) (sym (text-more step ns n m here))
@@ -148,7 +148,7 @@ middle-top step n d files at top =
     let no : nat_lt 0 n.0.depth ≡ false = is_false (nat_lt 0 n.0.depth) (λ e. let t : 0 < n.0.depth = grind (arith, nat_tests) in absurd (omega (arith, at, t, top))) in
     ap (λ (b : Bool). cond b (map (with_entry step n) files) files) (sym no)
 
--- a node with a file of its own, and one without
+-- a node with a file of its own, and a node without one
 pub node-filed : (step : ℕ) (n : Node) (key : VoxelKey) (files middle : List OpenFile) (text : List ℕ) → key ≡ n.0 → middle ≡ cond (nat_lt 0 n.0.depth) (map (with_entry step n) files) files → has_file step n.0 ≡ true → text ≡ codes "{" ++ entry_text (n.0, pos n.1) → insert_entry key_cmp middle key text ≡ with_node step n files
 unfolding with_node
 node-filed step n key files middle text at is file text_is =

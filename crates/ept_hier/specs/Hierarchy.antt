@@ -1,6 +1,6 @@
 -- The hierarchy of a dataset in files (Entwine Point Tile 1.1.0, "ept-hierarchy").
 --
--- `step` is how many depths stand in one file; with 0 all nodes stand in the root's.
+-- `step` is the number of depths in one file. With 0 all nodes are in the root's file.
 use Rattle.std.specs.Prelude.{◌≡◌, ℕ, ◌+◌, ◌<◌, ◌%◌, ℤ, pos, negsuc, Bool, ◌&&◌, ◌||◌, ◌==◌, nat_le, nat_lt, List, ◌++◌, map, filter, if◌then◌else◌, codes, Contains}
 use Rattle.std.specs.Fmt.{signed_decimal}
 use Rattle.std.specs.List.{join_by}
@@ -22,7 +22,7 @@ entry_text e = codes "\"" ++ key_text e.0 ++ codes "\":" ++ signed_decimal e.1
 unfoldable pub hierarchy_text : List Entry → List ℕ
 hierarchy_text entries = codes "{" ++ join_by entry_text (codes ",") entries ++ codes "}"
 
--- ---- which nodes stand in which file
+-- ---- which nodes are in which file
 
 -- a node: its key, and the number of its points
 abbrev pub Node : Type 0
@@ -32,19 +32,19 @@ Node = VoxelKey × ℕ
 abbrev pub keys_of : List Node → List VoxelKey
 keys_of nodes = map (λ (n : Node). n.0) nodes
 
--- a node has a file of its own: the root with step 0, else each node whose depth is a multiple of the step
+-- whether a node has a file of its own: the root with step 0, otherwise each node whose depth is a multiple of the step
 unfoldable pub has_file : ℕ → VoxelKey → Bool
 has_file step key = if step == 0 then same_key key root else (key.depth % step == 0)
 
--- a node stands in the file of `top`: it is `top` or below it, and at most `step` depths deeper
+-- whether a node is in the file of `top`: it is `top` or below it, and at most `step` depths deeper
 unfoldable pub stands_in : ℕ → VoxelKey → VoxelKey → Bool
 stands_in step top key = is_within top key && ((step == 0) || nat_le key.depth (top.depth + step))
 
--- it is a link there: it is `step` depths deeper, and its count stands in its own file
+-- whether it is a link there: it is `step` depths deeper, and its count is in its own file
 unfoldable pub is_link : ℕ → VoxelKey → VoxelKey → Bool
 is_link step top key = nat_lt 0 step && (key.depth == top.depth + step)
 
--- the entry of a node in the file of `top`: its count, or -1 where it is a link
+-- the entry of a node in the file of `top`: its count, or -1 if it is a link
 abbrev pub entry_in : ℕ → VoxelKey → Node → Entry
 entry_in step top n = (n.0, if is_link step top n.0 then negsuc 0 else pos n.1)
 
@@ -62,7 +62,7 @@ file_of step nodes n = record { key = n.0; text = hierarchy_text (entries_of ste
 unfoldable pub hierarchy : ℕ → List Node → List HierFile
 hierarchy step nodes = map (file_of step nodes) (filter (λ (n : Node). has_file step n.0) nodes)
 
--- ---- what the nodes of an octree keep
+-- ---- what holds of the nodes of an octree
 
 -- the keys ascend
 unfoldable pub KeysAscend : List Node → Type 0

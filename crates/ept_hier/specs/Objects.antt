@@ -11,7 +11,7 @@ use Rattle.ept_hier.specs.Reading.{Member, NamesKey, IsEntryOf, HasNoCount, Refu
 use Rattle.ept_hier.specs.declared.hier_error.HierError.{HierError}
 use Rattle.ept_hier.specs.declared.hier_error.HierError.TheVariants.{Json, Key, Count, Memory}
 
--- what is told where a text has no value
+-- what is returned if a text has no value
 abbrev pub of_json : JsonError → HierError
 of_json json.NoText = Json
 of_json json.Memory = Memory
@@ -20,19 +20,19 @@ of_json json.Memory = Memory
 abbrev pub member_at : String Global × Value → Member
 member_at e = (string_bytes e.0, view e.1)
 
--- a name is refused by this cause: it is no key's
+-- a name is refused for this cause: it is not the text of a key
 abbrev pub RefusesName : List ℕ → HierError → Type 0
 RefusesName name Json = ⊥
 RefusesName name Key = ¬ NamesKey name
 RefusesName name Count = ⊥
 RefusesName name Memory = ⊤
 
--- a member was read: its entry stands behind the others, or its name is a key's and its value no count
+-- A member was read. Its entry is after the others, or its name is the text of a key and its value no count.
 abbrev pub IsTaken : Member → Bool → List Entry → List Entry → Type 0
 IsTaken m true old new = (e : Entry) × IsEntryOf m e × (new ≡ old ++ e ∷ [])
 IsTaken m false old new = NamesKey m.0 × HasNoCount m
 
--- members were read: the entries are theirs, or their names are keys' and some value is no count
+-- Members were read. The entries are theirs, or their names are texts of keys and a value is no count.
 abbrev pub AreTaken : List Member → Bool → List Entry → Type 0
 AreTaken members true entries = AllZip IsEntryOf members entries
 AreTaken members false entries = RefusesMembers members Count

@@ -20,7 +20,7 @@ abbrev pub member_list : Members → List Member
 member_list no_members = []
 member_list (member name value members) = (name, value) ∷ member_list members
 
--- the members of the object that they are the text of
+-- the members of the object, if the bytes are the text of one
 unfoldable pub members_in : List ℕ → Option (List Member)
 members_in bytes = option_map member_list (option_and_then as_object (document bytes))
 
@@ -29,20 +29,20 @@ pub record Names (name : List ℕ) (key : VoxelKey) : Type 0 where
   pub is_key : IsKey key
   pub spelled : key_text key ≡ name
 
--- a name is the text of some key
+-- a name is the text of a key
 abbrev pub NamesKey : List ℕ → Type 0
 NamesKey name = (key : VoxelKey) × Names name key
 
--- the number that a value is: a whole number of 64 bits, from -1 up
+-- the number of a value, if it is a whole number of 64 bits from -1 up
 unfoldable pub number_in : Data → Option ℤ
 number_in value = option_and_then (λ z. if lt_z z (negsuc 0) then None else Some z) (option_and_then as_i64 (as_number value))
 
--- an entry is what a member says
+-- an entry is that of a member
 pub record IsEntryOf (m : Member) (e : Entry) : Type 0 where
   pub names : Names m.0 e.0
   pub number : number_in m.1 ≡ Some e.1
 
--- the entries are what the members of the object say, in key order
+-- the entries are those of the members of the object, in key order
 pub record IsReading (bytes : List ℕ) (entries : List Entry) : Type 0 where
   pub members : List Member
   pub object : members_in bytes ≡ Some members
@@ -55,7 +55,7 @@ pub record IsReading (bytes : List ℕ) (entries : List Entry) : Type 0 where
 abbrev pub Appends : List ℕ → List Entry → List Entry → Type 0
 Appends bytes old new = (entries : List Entry) × IsReading bytes entries × (new ≡ old ++ entries)
 
--- a member whose name is no key's
+-- a member whose name is not the text of a key
 abbrev pub HasNoKey : Member → Type 0
 HasNoKey m = ¬ NamesKey m.0
 
@@ -63,14 +63,14 @@ HasNoKey m = ¬ NamesKey m.0
 abbrev pub HasNoCount : Member → Type 0
 HasNoCount m = number_in m.1 ≡ None
 
--- members are refused by this cause: some name is no key's, or else some value is no count
+-- Members are refused for this cause: a name is not the text of a key, or if all are, a value is no count.
 abbrev pub RefusesMembers : List Member → HierError → Type 0
 RefusesMembers members Json = ⊥
 RefusesMembers members Key = Any HasNoKey members
 RefusesMembers members Count = All (λ (m : Member). NamesKey m.0) members × Any HasNoCount members
 RefusesMembers members Memory = ⊤
 
--- the bytes are refused by this cause: they are the text of no object, or else the object's members are refused
+-- The bytes are refused for this cause: they are not the text of an object, or if they are, its members are refused.
 abbrev pub RefusesFile : List ℕ → HierError → Type 0
 RefusesFile bytes Json = members_in bytes ≡ None
 RefusesFile bytes Key = (members : List Member) × (members_in bytes ≡ Some members) × RefusesMembers members Key

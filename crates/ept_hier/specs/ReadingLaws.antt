@@ -1,4 +1,4 @@
--- What holds of the reading of hierarchy files. Each statement stands on the contract of a function of `laws`.
+-- What holds of the reading of hierarchy files. Each statement is a clause of a function of `laws`.
 use Rattle.std.specs.Prelude.{◌≡◌, ℕ, ◌<◌, ◌^◌, pos, negsuc, ◌≤ℤ◌, ◌<ℤ◌, List, All, AllPairs}
 use Rattle.std.specs.declared.cmp.Ordering.TheVariants.{Less}
 use Rattle.ept_space.specs.VoxelKey.{IsKey, key_cmp}

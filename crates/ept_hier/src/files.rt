@@ -11,16 +11,16 @@ use ept_space::Key;
 use std::alloc::Global;
 use std::collections::BTreeMap;
 
-/// The hierarchy files of the nodes, in key order (Entwine Point Tile 1.1.0, "ept-hierarchy").
+/// Returns the hierarchy files of the nodes, in key order (Entwine Point Tile 1.1.0, "ept-hierarchy").
 ///
-/// Each node is given by its key and the number of its points, and the keys ascend. With step 0 the
-/// root's file has all nodes. With another step each node whose depth is a multiple of it has a file,
-/// of itself and the nodes below it down to `step` depths deeper; -1 stands there for the count of a
-/// node at that depth, which has a file of its own. Of an octree, where each node's parent is there,
-/// each count stands in one file ([`hierarchy_law`](crate::hierarchy_law)).
+/// Each node is given by its key and the number of its points, and the keys ascend. With step 0 the root's file has all
+/// nodes. With another step, each node whose depth is a multiple of it has a file. The file has the node and the nodes
+/// below it that are at most `step` depths deeper. A node that is `step` depths deeper has -1 there in place of its
+/// count, because it has a file of its own. If the nodes are an octree, so that the parent of each is there, each count
+/// is in one file ([`hierarchy_law`](crate::hierarchy_law)).
 ///
-/// Each node is looked up at most twice in an ordered map of the files so far and written into at most
-/// two of them, so the time grows with the number of nodes times the logarithm of the number of files.
+/// Each node is looked up at most twice in an ordered map of the files so far, and written into at most two of them. So
+/// the time grows with the number of nodes times the logarithm of the number of files.
 pub fn hierarchy_files(
     alloc: Global,
     nodes: &[(Key, u64)],
@@ -36,7 +36,7 @@ pub fn hierarchy_files(
     closed_files(alloc, files)
 }
 
-// Adds a node to the file above it, and begins its own where it has one.
+// Adds a node to the file above it, and begins its own file if it has one.
 fn add_node(
     alloc: Global,
     files: &mut BTreeMap<Key, OpenText>,
@@ -55,7 +55,7 @@ fn add_node(
     Ok(())
 }
 
-// Adds a node below the root to the file in which it stands beside its own.
+// Adds a node below the root to the file above it.
 fn add_above(
     files: &mut BTreeMap<Key, OpenText>,
     step: u8,
@@ -90,7 +90,7 @@ fn has_file(step: u8, key: &Key) -> bool
     }
 }
 
-// The key of the file in which a node below the root stands beside its own.
+// The key of the file above a node below the root. This file has an entry of the node and is not the node's own.
 fn file_above(step: u8, key: &Key) -> Key
     requires { 0 < key.now.depth }
     ensures { result ≡ file_above step key.now }
@@ -106,7 +106,7 @@ fn file_above(step: u8, key: &Key) -> Key
     }
 }
 
-// Its depth.
+// The depth of the file above a node of this depth.
 fn file_depth(step: u8, depth: u8) -> u8
     requires { 0 < depth }
     ensures value { result ≡ file_depth step depth }
@@ -118,7 +118,7 @@ fn file_depth(step: u8, depth: u8) -> u8
     (depth - 1) / step * step
 }
 
-// The files with the brace that ends each.
+// The files, each with the brace that ends it.
 fn closed_files(alloc: Global, begun: BTreeMap<Key, OpenText>) -> Result<Vec<HierFile>, Memory>
     ensures { IfOk result (λ v. v.items ≡ map closed begun.entries) }
 {

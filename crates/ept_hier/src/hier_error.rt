@@ -10,9 +10,9 @@ use ept_point::Memory;
 pub enum HierError {
     /// The bytes are not the text of a JSON object.
     Json,
-    /// The bytes are the text of an object, and a name is the text of no key.
+    /// The bytes are the text of a JSON object, but one of its names is not the text of a key.
     Key,
-    /// Each name is a key's, and a value is no whole number of 64 bits from -1 up.
+    /// Each name is the text of a key, but a value is not a whole number of 64 bits from -1 up.
     Count,
     /// Memory ran out.
     Memory,

@@ -1,4 +1,4 @@
-//! The laws of hierarchy files, each on the contract of a function that does nothing.
+//! The laws of hierarchy files. Each is the contract of a function that does nothing.
 
 ghost use Rattle.ept_hier.specs.ReadingLaws.{ReadingIsOne, TextsAreReadBack, FilesAreReadBack};
 ghost use Rattle.ept_hier.specs.HierarchyLaws.{CountsStandOnce, LinksHaveFiles};
@@ -9,7 +9,7 @@ pub fn hierarchy_law()
     ensures links { LinksHaveFiles }
 {}
 
-/// Bytes have one reading, and each file of nodes is read as its entries, where the counts are below 2^63.
+/// Bytes have one reading. The file of a node is read as its entries, if the counts are below 2^63.
 pub fn reading_law()
     ensures one { ReadingIsOne }
     ensures texts { TextsAreReadBack }

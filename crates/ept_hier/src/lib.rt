@@ -1,8 +1,8 @@
-//! The hierarchy of a dataset in files (Entwine Point Tile 1.1.0, "ept-hierarchy"): JSON objects that
-//! tell how many points each node has.
+//! The hierarchy of a dataset in files (Entwine Point Tile 1.1.0, "ept-hierarchy"). They are JSON objects that state
+//! how many points each node has.
 //!
-//! With a step above 0 the nodes of so many depths stand in one file, and a node whose file is another
-//! one is marked by the number -1.
+//! With a step above 0, a file has the counts of `step` depths. A node one depth below them has a file of its own, and
+//! the number -1 in place of its count.
 #![tactic(auto)]
 
 mod file;

@@ -12,7 +12,7 @@ use itoa::Buffer;
 use std::alloc::Global;
 use std::marker::Model;
 
-/// The text of a file that has an entry and may get more: all but the brace that ends it.
+/// The text of a file that has an entry and may get more, without the brace that ends it.
 #[derive(Drop)]
 pub(crate) struct OpenText {
     text: Vec<u8>,
@@ -36,7 +36,7 @@ impl OpenText {
         Ok(OpenText { text })
     }
 
-    /// Appends the entry of a node: its count, or none where the node has a file of its own.
+    /// Appends the entry of a node: its count, or -1 if the node has a file of its own.
     pub(crate) fn add(&mut self, key: &Key, count: Option<u64>) -> Result<(), Memory>
         ensures { OnOk result (self.new ≡ self.old ++ codes "," ++ entry_text (key.now, number_of count)) }
     {
@@ -55,7 +55,7 @@ impl OpenText {
     }
 }
 
-// Appends `"D-X-Y-Z":N`, where N is the count, or -1 where there is none.
+// Appends `"D-X-Y-Z":N`, where N is the count, or -1 if there is none.
 #[tactic(auto, unfolding(crate::specs::Hierarchy::entry_text))]
 fn append_entry(text: &mut Vec<u8>, key: &Key, count: Option<u64>) -> Result<(), Memory>
     ensures { OnOk result (text.new.items ≡ text.old.items ++ entry_text (key.now, number_of count)) }
@@ -77,7 +77,7 @@ fn append_key(text: &mut Vec<u8>, key: &Key) -> Result<(), Memory>
     Ok(())
 }
 
-// Appends the count, or -1 where there is none.
+// Appends the count, or -1 if there is none.
 fn append_number(text: &mut Vec<u8>, count: Option<u64>) -> Result<(), Memory>
     ensures { OnOk result (text.new.items ≡ text.old.items ++ signed_decimal (number_of count)) }
 {

@@ -17,11 +17,11 @@ use ept_space::{Key, read_key};
 use serde_json::{Map, Value};
 use std::alloc::Global;
 
-/// Reads a hierarchy file and appends its entries in key order: a key and the number of the points of
-/// its node, or -1 where the file of that key tells it (Entwine Point Tile 1.1.0, "ept-hierarchy").
+/// Reads a hierarchy file and appends its entries in key order (Entwine Point Tile 1.1.0, "ept-hierarchy"). An entry is
+/// a key and the number of its node's points. It is -1 if that number is in the file of that key.
 ///
-/// The text may have white space, and its members may stand in any order; of a name that stands twice
-/// the last value counts. All names are judged before any value. After a refusal the list is as it was.
+/// The text may have white space, and its members may be in any order. If a name is there twice, the last value counts.
+/// All names are judged before any value. After a refusal the list is as it was.
 pub fn read_hierarchy_file(
     alloc: Global,
     bytes: &[u8],
@@ -55,7 +55,7 @@ fn read_entries(alloc: Global, bytes: &[u8]) -> Result<Vec<(Key, i64)>, HierErro
     Ok(entries)
 }
 
-// The entries that the members say.
+// The entries of the members.
 fn entries_of(alloc: Global, members: &Map<String, Value>) -> Result<Vec<(Key, i64)>, HierError>
     ensures ok { IfOk result (λ v. AllZip IsEntryOf (map member_at members.now.entries) v.items) }
     ensures refused { IfErr result (RefusesMembers (map member_at members.now.entries)) }
@@ -72,8 +72,8 @@ fn entries_of(alloc: Global, members: &Map<String, Value>) -> Result<Vec<(Key, i
     }
 }
 
-// Adds the entry that a member says behind the others. Its name is a key's; answers whether its value is
-// a count, without which it says no entry.
+// Appends the entry of a member whose name is the text of a key. Returns whether its value is a count. If it is not,
+// nothing is appended.
 fn read_member(name: &str, value: &Value, entries: &mut Vec<(Key, i64)>) -> Result<bool, HierError>
     ensures ok { IfOk result (λ counted.
         IsTaken (name.now, view value.now) counted entries.old.items entries.new.items) }
@@ -92,7 +92,7 @@ fn read_member(name: &str, value: &Value, entries: &mut Vec<(Key, i64)>) -> Resu
     }
 }
 
-// Adds an entry behind the others.
+// Appends an entry to the others.
 fn push(entries: &mut Vec<(Key, i64)>, entry: (Key, i64)) -> Result<(), Memory>
     ensures { OnOk result (entries.new.items ≡ entries.old.items ++ entry ∷ []) }
 {
@@ -100,7 +100,7 @@ fn push(entries: &mut Vec<(Key, i64)>, entry: (Key, i64)) -> Result<(), Memory>
     Ok(())
 }
 
-// The number that a value is, from -1 up.
+// The number of a value, if it is a whole number from -1 up.
 #[tactic(auto, unfolding(crate::specs::Reading::number_in))]
 fn number_in(value: &Value) -> Option<i64>
     ensures { result ≡ number_in (view value.now) }
@@ -108,7 +108,7 @@ fn number_in(value: &Value) -> Option<i64>
     value.as_i64().filter(|number| *number >= -1)
 }
 
-// Brings the entries in key order.
+// Sorts the entries by their keys.
 fn sort(entries: &mut Vec<(Key, i64)>) -> Result<(), Memory>
     ensures { OnOk result (IsPermutation entries.old.items entries.new.items
         × IsSortedByKey (λ (e : Entry). e.0) key_cmp entries.new.items) }
@@ -117,7 +117,7 @@ fn sort(entries: &mut Vec<(Key, i64)>) -> Result<(), Memory>
     Ok(())
 }
 
-// Moves the entries behind those of the list.
+// Moves the entries to the end of the list.
 fn append(mut entries: Vec<(Key, i64)>, out: &mut Vec<(Key, i64)>) -> Result<(), Memory>
     ensures ok { OnOk result (out.new.items ≡ out.old.items ++ entries.items) }
     ensures unchanged { OnErr result (out.new.items ≡ out.old.items) }

@@ -37,7 +37,7 @@ code_small head expect PointOffset h = omega arith
 code_small head expect Expect h = omega arith
 code_small head expect (Truncated n) h = absurd h
 
--- two first faults are one
+-- two first faults are the same
 fault_once : (head : List ℕ) (expect : Option (List ℕ)) (f g : LasError) → HeaderReadsAs head expect (Err f) → HeaderReadsAs head expect (Err g) → f ≡ g
 fault_once head expect f g hf hg =
     elim (cases_lt (code_of f) (code_of g)) [

@@ -1,4 +1,4 @@
--- A record reads in one way, and is never out of units where coordinates are stored as they are.
+-- A record reads in one way, and is never out of units if coordinates are stored unchanged.
 use Rattle.std.proofs.Common.{◌≡◌, ℕ, ℤ, pos, ◌+ℤ◌, ◌*ℤ◌, ◌<◌, ◌^◌, List, Option, Some, None, FitsSigned, refl, sym, ap, ◌∙◌, subst, arith, drop, get_or-drop, zero, suc, ◌+◌, ◌*◌}
 use Rattle.std.specs.Int.{w32, cast_signed}
 use Rattle.std.specs.List.{concat}
@@ -16,7 +16,7 @@ use Rattle.ept_las.specs.PointRecord.{coordinate, IsOutOfUnits, IsPointOf, Recor
 fits_of_bits : (n : ℕ) → n < 2 ^ 32 → FitsSigned w32 (cast_signed w32 n)
 fits_of_bits n h = omega (arith, ints)
 
--- a number of four bytes fits 32 bits
+-- a number of four bytes fits into 32 bits
 pub i32_at_fits : (bytes : List ℕ) (at : ℕ) → AreBytes bytes → FitsSigned w32 (i32_at bytes at)
 unfolding i32_at
 i32_at_fits bytes at are = fits_of_bits (little_number 4 (drop at bytes)) (little_from-lt 0 4 (drop at bytes) (λ i. rw (get_or-drop at bytes i 0) (are (at + i))))
@@ -24,7 +24,7 @@ i32_at_fits bytes at are = fits_of_bits (little_number 4 (drop at bytes)) (littl
 stored_identity : (z : ℤ) → (z *ℤ pos 1) +ℤ pos 0 ≡ z
 stored_identity z = omega (arith, ints)
 
--- raw coordinates that are stored as they are fit
+-- raw coordinates that are stored unchanged fit
 pub identity_in_units : (shift : Shift) (bytes : List ℕ) → AreBytes bytes → IsIdentity shift → ¬ IsOutOfUnits shift bytes
 identity_in_units shift bytes are plain out =
     let raw = i32_at bytes (4 * out.0) in

@@ -14,7 +14,7 @@ use Rattle.ept_las.specs.Pulses.{return_number_of, number_of_returns_of, scan_di
 use Rattle.ept_las.specs.PointRecord.{coordinate, gps_of, colour_of, intensity_of, user_of}
 use Rattle.ept_las.specs.Laws.{PlaceHasPoint}
 
--- some bits are a number below a power of two
+-- `count` bits are a number below 2 ^ count
 few_bits : (byte low count : ℕ) → bits byte low count < 2 ^ count
 unfolding bits
 few_bits byte low count = search rules
@@ -25,7 +25,7 @@ rank_fits n h = omega (arith, ints)
 angle_fits : (n : ℕ) → n < 2 ^ 16 → FitsSigned w16 (cast_signed w16 n)
 angle_fits n h = omega (arith, ints)
 
--- where the time and the colours stand, a record has room for them
+-- a record has room for the time and the colours at their places
 gps_room : (format : ℕ) → IsFormat format → IfSome (gps_place format) (λ at. at + 8 ≤ record_length format)
 unfolding gps_place record_length
 gps_room format is = grind (arith, nat_tests)

@@ -8,11 +8,11 @@ is_format format = nat_le format 3 || (format == 6 || format == 7)
 abbrev pub IsFormat : ℕ → Type 0
 IsFormat format = IsTrue (is_format format)
 
--- 6 and 7 have fields of their own
+-- 6 and 7 are the extended formats, which have fields of their own
 abbrev pub is_extended : ℕ → Bool
 is_extended format = nat_le 6 format
 
--- how many bytes the fields of a record take
+-- how many bytes the fields of a record have
 unfoldable pub record_length : ℕ → ℕ
 record_length format =
     if format == 0
@@ -27,11 +27,11 @@ record_length format =
     then 30
     else 36))))
 
--- where the GPS time begins, in a format that has it
+-- the place of the GPS time, in a format that has it
 unfoldable pub gps_place : ℕ → Option ℕ
 gps_place format = if format == 1 || format == 3 then Some 20 else (if is_extended format then Some 22 else None)
 
--- where red, green and blue begin, in a format that has them
+-- the place of red, green and blue, in a format that has them
 unfoldable pub colour_place : ℕ → Option ℕ
 colour_place format =
     if format == 2

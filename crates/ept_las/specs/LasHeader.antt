@@ -43,13 +43,13 @@ scales_of head = take 48 (drop 131 head)
 abbrev pub new_points_of : List ℕ → ℕ
 new_points_of head = u64_at head 247
 
--- ---- what they are to be
+-- ---- which values they have to have
 
--- the least size of a version's header: of LAS 1.4, of 1.2, of 1.3
+-- the least size of the header of a version: of LAS 1.4, of 1.2, of 1.3
 abbrev pub least_size : ℕ → ℕ
 least_size minor = if minor == 4 then 375 else (if minor == 2 then 227 else 235)
 
--- the number of points: the one of 64 bits where a version has it and it is not 0
+-- the number of points: that of 64 bits if the version has it and it is not 0, otherwise the legacy number
 unfoldable pub points_of : List ℕ → ℕ
 points_of head =
     if (minor_of head == 4) && not (new_points_of head == 0)
@@ -65,12 +65,12 @@ DiffersFrom (Some expect) head = scales_of head ≢ expect
 abbrev pub HasOtherVersion : List ℕ → Type 0
 HasOtherVersion head = (major_of head ≢ 1) ⊎ (minor_of head < 2) ⊎ (4 < minor_of head)
 
--- the stated header, or the file, is shorter than the version's least header
+-- the stated header size, or the file, is below the version's least header size
 abbrev pub HasShortHeader : List ℕ → Type 0
 HasShortHeader head =
     (header_size_of head < least_size (minor_of head)) ⊎ (length head < least_size (minor_of head))
 
--- what is wrong with a header, each by itself
+-- what is wrong with a header, each fault by itself
 abbrev pub HasFault : List ℕ → Option (List ℕ) → LasError → Type 0
 HasFault head expect Short = length head < 227
 HasFault head expect Signature = take 4 head ≢ codes "LASF"
@@ -84,7 +84,7 @@ HasFault head expect PointOffset = point_offset_of head < header_size_of head
 HasFault head expect Expect = DiffersFrom expect head
 HasFault head expect (Truncated number) = ⊥
 
--- the code of a fault; faults are looked for in this order
+-- the code of a fault; faults are checked in this order
 abbrev pub code_of : LasError → ℕ
 code_of Short = 1
 code_of Signature = 2
@@ -97,11 +97,11 @@ code_of PointOffset = 8
 code_of Expect = 9
 code_of (Truncated number) = 10
 
--- no fault of a code below this one
+-- no fault with a code below n
 abbrev pub HasNoneBelow : List ℕ → Option (List ℕ) → ℕ → Type 0
 HasNoneBelow head expect n = (f : LasError) → code_of f < n → ¬ HasFault head expect f
 
--- what a sound header says
+-- what a header without a fault says
 pub record IsHeaderOf (head : List ℕ) (header : Header) : Type 0 where
   pub minor_is : header.minor ≡ minor_of head
   pub format_is : header.format ≡ format_of head
@@ -109,12 +109,12 @@ pub record IsHeaderOf (head : List ℕ) (header : Header) : Type 0 where
   pub offset_is : header.offset ≡ point_offset_of head
   pub points_is : header.points ≡ points_of head
 
--- The first bytes of a file, all of them or 375, read as a header, or as the fault that comes first.
+-- The first bytes of a file, all of them or 375, read as a header, or as the first fault.
 abbrev pub HeaderReadsAs : List ℕ → Option (List ℕ) → Result Header LasError → Type 0
 HeaderReadsAs head expect (Ok header) = HasNoneBelow head expect 10 × IsHeaderOf head header
 HeaderReadsAs head expect (Err fault) = HasNoneBelow head expect (code_of fault) × HasFault head expect fault
 
--- the fault that comes first, if there is one
+-- the first fault, if there is one
 abbrev pub FirstFaultIs : List ℕ → Option (List ℕ) → Option LasError → Type 0
 FirstFaultIs head expect None = HasNoneBelow head expect 10
 FirstFaultIs head expect (Some fault) = HasNoneBelow head expect (code_of fault) × HasFault head expect fault

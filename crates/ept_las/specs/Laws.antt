@@ -18,11 +18,11 @@ HeaderInOneWay = (head : List ℕ) (expect : Option (List ℕ)) (a b : Result He
 abbrev pub RecordInOneWay : Type 0
 RecordInOneWay = (format : ℕ) (shift : Shift) (source number : ℕ) (bytes : List ℕ) (a b : Option Point) → RecordReadsAs format shift source number bytes a → RecordReadsAs format shift source number bytes b → a ≡ b
 
--- raw coordinates that are stored as they are fit
+-- raw coordinates that are stored unchanged fit
 abbrev pub IdentityIsInUnits : Type 0
 IdentityIsInUnits = (shift : Shift) (bytes : List ℕ) → AreBytes bytes → IsIdentity shift → ¬ IsOutOfUnits shift bytes
 
--- a record of a format whose place is in units holds a point, which lies at this place
+-- a record of a format that has its place in units holds a point, which lies at this place
 abbrev pub PlaceHasPoint : Type 0
 PlaceHasPoint = (format : ℕ) (shift : Shift) (source number : ℕ) (bytes : List ℕ) (place : Place)
     → IsFormat format → record_length format ≤ length bytes → AreBytes bytes

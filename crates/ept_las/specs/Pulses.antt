@@ -1,10 +1,10 @@
--- The fields of a record that stand elsewhere in formats 6 and 7, the extended ones (LAS 1.4 R15, section 2.6): at byte 14 and on, bits
--- from the lowest up.
+-- The fields of a record that have other places in the extended formats, 6 and 7 (LAS 1.4 R15, section 2.6). They begin
+-- at byte 14. Bits are counted from the lowest up.
 use Rattle.std.specs.Prelude.{ℕ, ℤ, Bool, pos, ◌≡◌, List, if◌then◌else◌, slice_index}
 use Rattle.ept_las.specs.declared.pulse.Pulse.{Pulse}
 use Rattle.ept_las.specs.Words.{u16_at, i8_at, i16_at, bits}
 
--- what a format lacks is zero
+-- a field that a format lacks is zero
 module _ (extended : Bool) (bytes : List ℕ) where
   -- Return Number
   unfoldable pub return_number_of : ℕ
@@ -41,7 +41,7 @@ module _ (extended : Bool) (bytes : List ℕ) where
       then slice_index bytes 16
       else bits (slice_index bytes 15) 0 5
 
-  -- Synthetic, Key-Point and Withheld, in the formats 6 and 7 Overlap too
+  -- Synthetic, Key-Point and Withheld; in the formats 6 and 7 also Overlap
   unfoldable pub class_flags_of : ℕ
   class_flags_of =
       if extended
@@ -64,7 +64,7 @@ module _ (extended : Bool) (bytes : List ℕ) where
   unfoldable pub source_id_of : ℕ
   source_id_of = if extended then u16_at bytes 20 else u16_at bytes 18
 
--- all of them
+-- all these fields
 pub record IsPulseOf (extended : Bool) (bytes : List ℕ) (pulse : Pulse) : Type 0 where
   pub return_number_is : pulse.return_number ≡ return_number_of extended bytes
   pub number_of_returns_is : pulse.number_of_returns ≡ number_of_returns_of extended bytes

@@ -1,9 +1,9 @@
--- How a number is read of bytes, the lowest byte first.
+-- How a number is read from bytes, the lowest byte first.
 use Rattle.std.specs.Prelude.{ℕ, ℤ, ◌<◌, ◌/◌, ◌%◌, ◌^◌, List, drop, slice_index}
 use Rattle.std.specs.Int.{w8, w16, w32, cast_signed}
 use Rattle.byteorder.specs.Endian.{little_number}
 
--- the number in so many bytes at a place
+-- the number in 2, 4 or 8 bytes from a place on
 unfoldable pub u16_at : List ℕ → ℕ → ℕ
 u16_at bytes at = little_number 2 (drop at bytes)
 
@@ -13,7 +13,7 @@ u32_at bytes at = little_number 4 (drop at bytes)
 unfoldable pub u64_at : List ℕ → ℕ → ℕ
 u64_at bytes at = little_number 8 (drop at bytes)
 
--- the same in two's complement
+-- the same, as a signed number in two's complement
 unfoldable pub i8_at : List ℕ → ℕ → ℤ
 i8_at bytes at = cast_signed w8 (slice_index bytes at)
 
@@ -23,7 +23,7 @@ i16_at bytes at = cast_signed w16 (little_number 2 (drop at bytes))
 unfoldable pub i32_at : List ℕ → ℕ → ℤ
 i32_at bytes at = cast_signed w32 (little_number 4 (drop at bytes))
 
--- so many bits of a byte, from the bit `low` up
+-- `count` bits of a byte, from the bit `low` up
 unfoldable pub bits : ℕ → ℕ → ℕ → ℕ
 bits byte low count = byte / 2 ^ low % 2 ^ count
 

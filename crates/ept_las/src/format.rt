@@ -6,7 +6,7 @@ ghost use Rattle.ept_las.specs.Format.{IsFormat, is_format, record_length, gps_p
 // The last of the formats 0 to 3.
 const LAST_PLAIN: u8 = 3;
 
-/// The first of the formats 6 and 7, which have fields of their own.
+/// The first of the extended formats, 6 and 7, which have fields of their own.
 pub const FIRST_EXTENDED: u8 = 6;
 
 /// Whether a point data record format is one of the six that are read: 0 to 3, 6 and 7.
@@ -16,7 +16,7 @@ pub fn is_format(format: u8) -> bool
     format <= LAST_PLAIN || format == 6 || format == 7
 }
 
-/// How many bytes the fields of a record take. A record may be longer, and the rest is skipped.
+/// How many bytes the fields of a record have. A record may be longer, and the rest is skipped.
 #[tactic(auto, unfolding(crate::specs::Format::record_length))]
 pub fn record_length(format: u8) -> u16
     requires { IsFormat format }
@@ -32,7 +32,7 @@ pub fn record_length(format: u8) -> u16
     }
 }
 
-/// Where the GPS time begins, in a format that has it.
+/// The place of the GPS time in a record, in a format that has it.
 #[tactic(auto, unfolding(crate::specs::Format::gps_place, crate::specs::Format::record_length))]
 pub fn gps_place(format: u8) -> Option<usize>
     requires { IsFormat format }
@@ -46,7 +46,7 @@ pub fn gps_place(format: u8) -> Option<usize>
     }
 }
 
-/// Where red, green and blue begin, in a format that has them.
+/// The place of red, green and blue in a record, in a format that has them.
 #[tactic(auto, unfolding(crate::specs::Format::colour_place, crate::specs::Format::record_length))]
 pub fn colour_place(format: u8) -> Option<usize>
     requires { IsFormat format }

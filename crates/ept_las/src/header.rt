@@ -8,13 +8,13 @@ use crate::format::{is_format, record_length};
 use crate::las_error::LasError;
 use crate::words::{bits, u16_at, u32_at, u64_at};
 
-/// The greatest size of a header that is read: that of LAS 1.4.
+/// The greatest length of a header that is read: the least header size of LAS 1.4.
 pub const HEAD_LENGTH: usize = 375;
 
-// How a LAS file begins.
+// The first bytes of a LAS file.
 const SIGNATURE: [u8; 4] = *b"LASF";
 
-// The least header size of LAS 1.2, which is the least of all, and that of LAS 1.3.
+// The least header size of LAS 1.2, which is the least of all, and the least of LAS 1.3.
 const LEAST_SIZE: usize = 227;
 
 const LEAST_SIZE_OF_1_3: usize = 235;
@@ -25,7 +25,7 @@ const FIRST_MINOR: u8 = 2;
 
 const LAST_MINOR: u8 = 4;
 
-// Where the fields stand, in bytes.
+// The places of the fields, in bytes.
 const MAJOR_AT: usize = 24;
 
 const MINOR_AT: usize = 25;
@@ -44,7 +44,7 @@ const SCALE_AT: usize = 131;
 
 const POINTS_AT: usize = 247;
 
-/// How many bytes the scales and offsets take.
+/// How many bytes the scales and offsets have.
 pub const SCALE_WIDTH: usize = 48;
 
 // A compressed file sets this bit of the format, or the one above it.
@@ -53,13 +53,13 @@ const COMPRESSED_BIT: u8 = 6;
 /// What a header says of a file's points.
 #[derive(Clone, Copy, Debug, PartialEq, Eq)]
 pub struct Header {
-    /// The file is of LAS 1.`minor`.
+    /// The minor version: the file has LAS 1.`minor`.
     pub minor: u8,
     /// The point data record format, one of the six that are read.
     pub format: u8,
-    /// The length of a record in bytes, at least its format's.
+    /// The length of a record in bytes, which is at least that of its format.
     pub length: u16,
-    /// Where the first record begins in the file, in bytes.
+    /// The place of the first record in the file, in bytes.
     pub offset: u32,
     /// The number of records.
     pub points: u64,
@@ -156,12 +156,12 @@ fn points_of(head: &[u8]) -> u64
     u64::from(u32_at(head, LEGACY_POINTS_AT))
 }
 
-/// Reads a header from the first `len` of these bytes: all bytes of the file, or its first 375. With
-/// `expect` the scales and offsets are to be these bytes. It takes no memory.
+/// Reads a header from the first `len` of these bytes, which are all bytes of the file or its first 375. If `expect` is
+/// given, the scales and offsets have to be these bytes. It takes no memory.
 ///
 /// # Errors
 ///
-/// The first fault in the order of the variants, exactly where a header has one.
+/// The first fault in the order of the variants, if and only if the header has one.
 pub fn read_header(
     bytes: &[u8; HEAD_LENGTH],
     len: usize,

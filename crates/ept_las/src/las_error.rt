@@ -2,11 +2,11 @@
 
 use ept_point::PointNumber;
 
-/// Why a file is no LAS file that can be read. The faults of a header are looked for in this order,
-/// and the first one is answered.
+/// Why a file is no LAS file that can be read. The faults of a header are checked in this order, and the first one is
+/// returned.
 #[derive(Clone, Copy, Debug, PartialEq, Eq)]
 pub enum LasError {
-    /// The file is shorter than the least header.
+    /// The file is shorter than the least header, of 227 bytes.
     Short,
     /// The file does not begin with `LASF`.
     Signature,
@@ -18,13 +18,13 @@ pub enum LasError {
     Compressed,
     /// The point data record format is not 0, 1, 2, 3, 6 or 7.
     Format,
-    /// The stated record length is below the format's.
+    /// The stated record length is below that of the format.
     RecordLength,
     /// The points begin within the header.
     PointOffset,
     /// The scales and offsets are not the expected ones.
     Expect,
-    /// The file ends before the last byte of the record of this number, the first such record.
+    /// The file ends before the last byte of the record of this number, which is the first such record.
     Truncated { number: PointNumber },
 }
 
@@ -32,7 +32,7 @@ impl LasError {
     ghost use Rattle.std.specs.Prelude.{◌≡◌};
     ghost use Rattle.ept_las.specs.LasHeader.{code_of};
 
-    /// The place of the fault in the order in which faults are looked for, from 1.
+    /// The place of the fault in the order in which faults are checked, from 1.
     pub fn code(self) -> u8
         ensures { result ≡ code_of self }
     {

@@ -12,12 +12,12 @@ pub fn record_once_law()
     ensures once { RecordInOneWay }
 {}
 
-/// A record whose coordinates are stored as they are is never out of units.
+/// A record whose coordinates are stored unchanged is never out of units.
 pub fn identity_shift_law()
     ensures fits { IdentityIsInUnits }
 {}
 
-/// A record whose place [`read_place`](crate::read_place) gives holds a point, which lies there.
+/// A record for which [`read_place`](crate::read_place) returns a place holds a point, which lies there.
 pub fn place_law()
     ensures { PlaceHasPoint }
 {}

@@ -11,7 +11,7 @@ use crate::words::i32_at;
 
 const COORDINATE_WIDTH: usize = 4;
 
-/// A stored coordinate is no number of 32 bits.
+/// A stored coordinate does not fit into 32 bits.
 #[derive(Clone, Copy, Debug, PartialEq, Eq)]
 pub struct OutOfUnits;
 
@@ -23,7 +23,7 @@ pub struct Place {
     pub z: i32,
 }
 
-// A coordinate in stored units, if it is a number of 32 bits.
+// A coordinate in stored units, if it fits into 32 bits.
 #[inline(always)]
 fn stored_of(raw: i32, factor: i64, by: i64) -> Option<i32>
     requires least { pos 1 ≤ℤ factor }
@@ -56,11 +56,11 @@ fn place_of(bytes: &[u8], shift: &Shift) -> Option<Place>
     Some(Place { x, y, z })
 }
 
-/// The place of a record, and nothing else of its point. It takes no memory.
+/// Reads the place of a record, and nothing else of its point. It takes no memory.
 ///
 /// # Errors
 ///
-/// `OutOfUnits` exactly where a stored coordinate is no number of 32 bits.
+/// `OutOfUnits` if and only if a stored coordinate does not fit into 32 bits.
 #[inline(always)]
 pub fn read_place(bytes: &[u8], shift: &Shift) -> Result<Place, OutOfUnits>
     requires { 20 ≤ length bytes.now }

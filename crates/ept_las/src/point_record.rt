@@ -14,7 +14,7 @@ use crate::shift::Shift;
 use crate::words::{bytes_at, u16_at};
 use ept_point::{GPS_WIDTH, Point, PointNumber};
 
-// Where each field stands in a record, in bytes.
+// The place of each field in a record, in bytes.
 const INTENSITY_AT: usize = 12;
 
 const USER_AT: usize = 17;
@@ -44,11 +44,11 @@ fn colour_of(place: Option<usize>, which: usize, bytes: &[u8]) -> u16
     }
 }
 
-/// The point of a record of this format: record `number` of the scan `source`. It takes no memory.
+/// Reads the point of a record of this format: record `number` of the scan `source`. It takes no memory.
 ///
 /// # Errors
 ///
-/// `OutOfUnits` exactly where a stored coordinate is no number of 32 bits.
+/// `OutOfUnits` if and only if a stored coordinate does not fit into 32 bits.
 #[inline(always)]
 pub fn read_record(
     format: u8,

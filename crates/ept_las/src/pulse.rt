@@ -1,11 +1,11 @@
-//! The fields of a record that stand elsewhere in formats 6 and 7.
+//! The fields of a record that have other places in formats 6 and 7.
 
 ghost use Rattle.ept_point.specs.Dimensions.{IsWithin, ReturnNumber, NumberOfReturns, ScanDirectionFlag, EdgeOfFlightLine, ClassFlags, ScanChannel};
 
 use crate::format::FIRST_EXTENDED;
 use crate::words::{bits, i8_at, i16_at, u16_at};
 
-// Where they stand, in bytes.
+// The places of these fields, in bytes.
 const RETURNS_AT: usize = 14;
 
 const FLAGS_AT: usize = 15;
@@ -20,7 +20,7 @@ const EXTENDED_ANGLE_AT: usize = 18;
 
 const EXTENDED_SOURCE_AT: usize = 20;
 
-/// What the laser pulse of a point left: its return, its class and its angle.
+/// The fields of a point that describe its laser pulse: its return, its class and its angle.
 #[derive(Drop)]
 pub struct Pulse {
     pub return_number: u8,
@@ -59,7 +59,7 @@ impl Pulse {
         }
     }
 
-    // In the formats 0 to 3.
+    // Reads the fields in the formats 0 to 3.
     #[tactic(auto, unfolding(crate::specs::Pulses::return_number_of, crate::specs::Pulses::number_of_returns_of, crate::specs::Pulses::scan_direction_of, crate::specs::Pulses::edge_of, crate::specs::Pulses::class_of, crate::specs::Pulses::class_flags_of, crate::specs::Pulses::channel_of, crate::specs::Pulses::angle_rank_of, crate::specs::Pulses::angle_of, crate::specs::Pulses::source_id_of,))]
     fn plain(bytes: &[u8]) -> Pulse
         requires { 20 ≤ length bytes.now }
@@ -81,7 +81,7 @@ impl Pulse {
         }
     }
 
-    // In the formats 6 and 7.
+    // Reads the fields in the formats 6 and 7.
     #[tactic(auto, unfolding(crate::specs::Pulses::return_number_of, crate::specs::Pulses::number_of_returns_of, crate::specs::Pulses::scan_direction_of, crate::specs::Pulses::edge_of, crate::specs::Pulses::class_of, crate::specs::Pulses::class_flags_of, crate::specs::Pulses::channel_of, crate::specs::Pulses::angle_rank_of, crate::specs::Pulses::angle_of, crate::specs::Pulses::source_id_of,))]
     fn extended(bytes: &[u8]) -> Pulse
         requires { 30 ≤ length bytes.now }

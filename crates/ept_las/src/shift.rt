@@ -2,8 +2,8 @@
 
 ghost use Rattle.std.specs.Prelude.{◌≤◌, ◌≤ℤ◌, ◌^◌, pos, slice_index_or, unsigned_abs};
 
-/// How raw coordinates become stored ones: multiplied by `factor`, which is from 1 to 10^9, and then
-/// moved by `by` stored units on each axis, at most 10^15 either way.
+/// How raw coordinates become stored ones. They are multiplied by `factor`, which is from 1 to 10^9. Then `by` is
+/// added, in stored units on each axis, with an absolute value of at most 10^15.
 #[derive(Clone, Copy, Debug, PartialEq, Eq)]
 pub struct Shift {
     pub factor: i64,
@@ -18,7 +18,7 @@ pub struct Shift {
 impl Shift {
     ghost use Rattle.ept_las.specs.Shifts.{IsIdentity};
 
-    /// The shift that stores raw coordinates as they are.
+    /// The shift that stores raw coordinates unchanged.
     pub fn identity() -> Shift
         ensures { IsIdentity result }
     {

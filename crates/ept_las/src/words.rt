@@ -5,7 +5,7 @@ ghost use Rattle.ept_las.specs.Words.{u16_at, u32_at, u64_at, i8_at, i16_at, i32
 
 use byteorder::{ByteOrder, LittleEndian};
 
-/// The bytes at a place.
+/// The next N bytes from a place on.
 pub fn bytes_at<const N: usize>(bytes: &[u8], at: usize) -> [u8; N]
     requires { at + N ≤ length bytes.now }
     ensures value { result ≡ take N (drop at bytes.now) }
@@ -63,7 +63,7 @@ pub fn i32_at(bytes: &[u8], at: usize) -> i32
     LittleEndian::read_i32(&bytes[at..])
 }
 
-/// So many bits of a byte, from the bit `low` up.
+/// `count` bits of a byte, from the bit `low` up.
 #[tactic(auto, unfolding(crate::specs::Words::bits))]
 pub fn bits(byte: u8, low: u8, count: u8) -> u8
     requires { low + count ≤ 8 }

@@ -1,4 +1,4 @@
--- A build file is that of one thing, and is read as that.
+-- A build file is that of one configuration, and is read as that.
 use Rattle.std.proofs.Common.{◌≡◌, ◌≢◌, ◌∙◌, ℕ, List, Some, None, sym, ap}
 use Rattle.std.proofs.Props.{props}
 use mathlib.Core.HLevel.{is_prop→PathP}
@@ -10,7 +10,7 @@ use Rattle.ept_meta.specs.BuildText.{build_text}
 use Rattle.ept_meta.specs.BuildReading.{BuildFacts, build_facts, told}
 use Rattle.ept_meta.proofs.BuildRead.{build_told}
 
--- what has the same facts is the same
+-- configurations with the same facts are the same
 kept_same : (a b : Kept) → build_facts a ≡ build_facts b → a ≡ b
 kept_same a b e = λ i. record {
   scale = (e i).scale;
@@ -45,10 +45,10 @@ pub read_again : (bytes : List ℕ) (found kept : Kept) → told bytes ≡ Some 
 read_again bytes found kept read is =
     kept_same kept found (same_facts (build_facts kept) (build_facts found) (sym (ap told is ∙ build_told kept) ∙ read))
 
--- bytes that tell nothing are no build file
+-- bytes that are not read as anything are no build file
 pub told_nothing : (bytes : List ℕ) → told bytes ≡ None → (kept : Kept) → bytes ≢ build_text kept
 told_nothing bytes nothing kept is = let some = sym nothing ∙ (ap told is ∙ build_told kept) in cc
 
--- so two that have one build file are the same
+-- so two configurations with the same build file are the same
 pub build-of-one : (a b : Kept) → build_text a ≡ build_text b → a ≡ b
 build-of-one a b same = sym (read_again (build_text a) a b (build_told a) same)

@@ -38,7 +38,7 @@ use Rattle.ept_meta.proofs.JsonTexts.{IsSpelled, AreSpelled, HaveSpelled, IsWhol
 
 -- ---- the value
 
--- whole numbers, and others behind them
+-- whole numbers, and other items after them
 abbrev pub numbers : List ℤ → Items → Items
 numbers [] rest = rest
 numbers (z ∷ zs) rest = item (number (of_integer z)) (numbers zs rest)
@@ -72,17 +72,17 @@ abbrev pub inputs_value : List Input → Items
 inputs_value [] = no_items
 inputs_value (i ∷ is) = item (input_value i) (inputs_value is)
 
--- the classes that come first, where there are some, in front of other members
+-- the classes that come first, if there are any, before other members
 abbrev pub first_value : List ℕ → Members → Members
 first_value [] rest = rest
 first_value (class ∷ classes) rest = member (codes "firstClasses") (array (naturals (class ∷ classes))) rest
 
--- that withheld points come last, where they do, in front of other members
+-- that withheld points come last, if they do, before other members
 abbrev pub last_value : Bool → Members → Members
 last_value true rest = member (codes "withheldLast") (boolean true) rest
 last_value false rest = rest
 
--- what is kept, with these classes first, and withheld points last or not
+-- what is kept, with these classes first, and with withheld points last or not
 abbrev pub build_value_with : Kept → List ℕ → Bool → Data
 build_value_with k classes last =
     object
@@ -274,7 +274,7 @@ inputs_written [] = refl
 inputs_written (i ∷ is) =
     ap (λ (w : List ℕ). 91 ∷ w) (ap₂ (λ (a b : List ℕ). a ++ b) (input_written i) (later_inputs is) ∙ sym (append_assoc (input_text i) (flat_map (λ x. codes "," ++ input_text x) is) (codes "]")))
 
--- ---- all of it
+-- ---- the whole text
 
 build_layout : (p1 p2 p3 p4 comma colon k1 k2 k3 k4 scale offset box span threshold deep step reference first last list ended : List ℕ)
     → p1 ++ (scale ++ (p2 ++ (offset ++ (p3 ++ (box ++ (comma ++ (k1 ++ (colon ++ (span ++ (comma ++ (k2 ++ (colon ++ (threshold ++ (comma ++ (k3 ++ (colon ++ (deep ++ (comma ++ (k4 ++ (colon ++ (step ++ (p4 ++ (reference ++ (first ++ (last ++ (list ++ ended))))))))))))))))))))))))))
@@ -292,7 +292,7 @@ unfolding naturals_text
 naturals_written n ns =
     ap (λ (w : List ℕ). 91 ∷ w) (ap (λ (w : List ℕ). decimal n ++ w) (later_naturals ns) ∙ sym (append_assoc (decimal n) (flat_map (λ x. codes "," ++ decimal x) ns) (codes "]")))
 
--- the members that may be left out, in front of others
+-- the members that may be left out, before others
 first_layout : (key numbers rest : List ℕ) → key ++ (numbers ++ rest) ≡ (key ++ numbers) ++ rest
 first_layout key numbers rest = sym (append_assoc key numbers rest)
 
@@ -408,7 +408,7 @@ build_spelled k =
     let box : AreSpelled (numbers k.bounds.min (numbers k.bounds.max no_items)) = spelled_three k.bounds.min (numbers k.bounds.max no_items) (2 ^ 31) (omega arith) (coordinates_within k.bounds.min k.has_bounds.min_is) (spelled_three k.bounds.max no_items (2 ^ 31) (omega arith) (coordinates_within k.bounds.max k.has_bounds.max_is) tt) in
     (IsUtf8-are_ascii (codes "scale") refl, scale, (IsUtf8-are_ascii (codes "offset") refl, offset, (IsUtf8-are_ascii (codes "bounds") refl, box, (IsUtf8-are_ascii (codes "span") refl, cells, (IsUtf8-are_ascii (codes "minNodeSize") refl, threshold, (IsUtf8-are_ascii (codes "maxDepth") refl, deep, (IsUtf8-are_ascii (codes "hierarchyStep") refl, step, (IsUtf8-are_ascii (codes "srs") refl, spelled_texts (members k.srs) (parts_plain k.srs), spelled_first (members_of k.first) _ (members_small k.first) (spelled_last k.withheld_last _ (IsUtf8-are_ascii (codes "input") refl, spelled_inputs k.inputs, tt))))))))))
 
--- ---- it does not nest deep
+-- ---- its depth of nesting is small
 
 none : (n : ℕ) → 0 ≤ n
 none n = omega arith

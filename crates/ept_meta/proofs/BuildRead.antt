@@ -215,7 +215,7 @@ unfolding inputs input_items array_items list_inputs
 inputs_read k =
     rw (are_inputs k.inputs, as_many k.inputs, le-leb 1 (length k.inputs) k.layout.inputs_some, le-leb (length k.inputs) 65535 k.layout.inputs_most, each_read k.scale k.inputs k.layout.inputs_scale) refl
 
--- ---- all of it
+-- ---- the whole value
 
 abbrev told_facts : Kept → (ℕ → Bool) → Bool → Facts
 told_facts k first last = record {

@@ -18,14 +18,14 @@ use Rattle.ept_config_text.specs.Values.{first_classes}
 use Rattle.ept_meta.specs.Classes.{members_below, members_of}
 use Rattle.ept_meta.proofs.JsonTexts.{ordered, items_ordered}
 
--- one number more behind a range
+-- one more number after a range
 range_more : (a n : ℕ) → range_with_len a (suc n) ≡ range_with_len a n ++ (a + n) ∷ []
 range_more a zero = let same : a ≡ a + 0 = omega arith in ap (λ (k : ℕ). k ∷ []) same
 range_more a (suc n) =
     let same : (a + 1) + n ≡ a + suc n = omega arith in
     ap (λ (w : List ℕ). a ∷ w) (range_more (a + 1) n ∙ ap (λ (k : ℕ). range_with_len (a + 1) n ++ k ∷ []) same)
 
--- the members below one number more
+-- the members below the next number
 pub members_more : (set : ClassSet) (n : ℕ) → members_below set (n + 1) ≡ members_below set n ++ (if has_class set n then n ∷ [] else [])
 unfolding members_below
 members_more set n =
@@ -36,7 +36,7 @@ members_more set n =
     ∙ ap (λ (k : ℕ). filter (has_class set) (range_with_len 0 n ++ k ∷ [])) none_more
     ∙ filter-append (has_class set) (range_with_len 0 n) (n ∷ [])
 
--- the same with a class that is one, and with one that is none
+-- the same with a class that is a member, and with a class that is none
 pub with_member : (set : ClassSet) (n byte : ℕ) (old new : List ℕ) (test : Bool) → byte ≡ n → test ≡ has_class set byte → test ≡ true → old ≡ members_below set n → new ≡ old ++ byte ∷ [] → new ≡ members_below set (n + 1)
 with_member set n byte old new test same is passes before pushed =
     let has : has_class set n ≡ true = ap (has_class set) (sym same) ∙ sym is ∙ passes in
@@ -55,7 +55,7 @@ without_member set n byte old test same is fails before =
 -- ---- the members of a range
 
 module _ (p : ℕ → Bool) where
-  -- a number before the range is none of them
+  -- a number before the range is not among them
   none_before : (class a n : ℕ) → class < a → list_any (λ other. eqb class other) (filter p (range_with_len a n)) ≡ false
   none_before class a zero low = refl
   none_before class a (suc n) low = elim (either (p a)) [
@@ -63,7 +63,7 @@ module _ (p : ℕ → Bool) where
     | inr not ↦ rw not (none_before class (a + 1) n (omega arith))
   ]
 
-  -- nor is one behind it
+  -- nor is a number after it
   none_behind : (class a n : ℕ) → a + n ≤ class → list_any (λ other. eqb class other) (filter p (range_with_len a n)) ≡ false
   none_behind class a zero high = refl
   none_behind class a (suc n) high = elim (either (p a)) [
@@ -71,7 +71,7 @@ module _ (p : ℕ → Bool) where
     | inr not ↦ rw not (none_behind class (a + 1) n (omega arith))
   ]
 
-  -- and one of the range is where it passes the test
+  -- a number of the range is among them if it passes the test
   listed_within : (class a n : ℕ) → a ≤ class → class < a + n → list_any (λ other. eqb class other) (filter p (range_with_len a n)) ≡ p class
   listed_within class a zero low high = absurd (omega arith)
   listed_within class a (suc n) low high = elim (cases_lt a class) [
@@ -108,7 +108,7 @@ abbrev pub naturals : List ℕ → Items
 naturals [] = no_items
 naturals (n ∷ ns) = item (number (unsigned n)) (naturals ns)
 
--- numbers that are classes, none twice
+-- numbers that are classes, no two of which are the same
 abbrev pub AreClasses : List ℕ → Type 0
 AreClasses classes = distinct_classes (list_of (items_ordered (naturals classes))) ≡ Some classes
 

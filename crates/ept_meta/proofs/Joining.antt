@@ -5,7 +5,7 @@ use Rattle.std.specs.List.{flat_map, join_by}
 use Rattle.std.proofs.lemmas.List.{take_more, append-nil}
 use Rattle.std.proofs.lemmas.List.Concat.{flat_map-append}
 
--- one more text behind others
+-- one more text after others
 behind : {X : Type 0} (f : X → List ℕ) (sep : List ℕ) (x : X) (xs : List X) (y : X) → join_by f sep ((x ∷ xs) ++ y ∷ []) ≡ join_by f sep (x ∷ xs) ++ (sep ++ f y)
 behind f sep x xs y =
     ap (λ w. f x ++ w) (flat_map-append (λ z. sep ++ f z) xs (y ∷ []) ∙ ap (λ w. flat_map (λ z. sep ++ f z) xs ++ w) (append-nil (sep ++ f y)))
@@ -14,7 +14,7 @@ behind f sep x xs y =
 later : (k : ℕ) → nat_lt 0 (suc k) ≡ true
 later k = search (rules, tests)
 
--- the text of the items up to one more, which has the separator before it where it is not the first
+-- the text of the items up to one more, which has the separator before it if it is not the first
 one_more : {X : Type 0} (f : X → List ℕ) (sep : List ℕ) (xs : List X) (k : ℕ) (x : X) → k < length xs → x ≡ get_or xs k x → join_by f sep (take (k + 1) xs) ≡ join_by f sep (take k xs) ++ (if nat_lt 0 k then sep else []) ++ f x
 one_more f sep [] k x inside is = absurd (omega (arith, inside))
 one_more f sep (y ∷ ys) zero x inside is = append-nil (f y) ∙ ap f (sym is)
@@ -24,7 +24,7 @@ one_more {X} f sep (y ∷ ys) (suc k) x inside is =
     ∙ sym (append_assoc (join_by f sep (y ∷ take k ys)) sep (f x))
     ∙ ap (λ (b : Bool). join_by f sep (take (suc k) (y ∷ ys)) ++ (if b then sep else []) ++ f x) (sym (later k))
 
--- one more item written behind those before it
+-- one more item is written after those before it
 pub item_written : {X : Type 0} (f : X → List ℕ) (sep : List ℕ) (xs : List X) (k : ℕ) (x : X) (start before middle after : List ℕ) → k < length xs → x ≡ get_or xs k x
     → before ≡ start ++ join_by f sep (take k xs) → middle ≡ before ++ (if nat_lt 0 k then sep else []) → after ≡ middle ++ f x → after ≡ start ++ join_by f sep (take (k + 1) xs)
 item_written f sep xs k x start before middle after inside is at_first then_sep then_item =

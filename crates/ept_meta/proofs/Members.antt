@@ -6,7 +6,7 @@ use Rattle.std.proofs.lemmas.List.{append-nil}
 use Rattle.ept_config.specs.declared.srs.Srs.{Srs}
 use Rattle.ept_meta.specs.SrsObject.{Member, member_text, given, members, member_part, srs_text}
 
--- the members that come where the object has some, or none
+-- the members that follow, if the object has members already, or none
 tail_text : Bool → List Member → List ℕ
 tail_text true ms = flat_map (λ m. codes "," ++ member_text m) ms
 tail_text false ms = join_by member_text (codes ",") ms
@@ -32,7 +32,7 @@ none_before ms = refl
 regroup : (s o a h v w c : List ℕ) → (((((s ++ o) ++ a) ++ h) ++ v) ++ w) ++ c ≡ s ++ ((o ++ (a ++ (h ++ (v ++ w)))) ++ c)
 regroup s o a h v w c = simp append_assoc
 
--- the four members, each behind those before it
+-- the four members, each after those before it
 module _ (srs : Srs) (b1 b2 b3 : Bool) (first : b1 ≡ false || is_some srs.authority) (second : b2 ≡ b1 || is_some srs.horizontal) (third : b3 ≡ b2 || is_some srs.vertical) where
   a : List ℕ
   a = member_part false (codes "authority") srs.authority

@@ -1,4 +1,4 @@
--- The names of an output's files are different.
+-- The names of an output's files differ.
 use Rattle.std.proofs.Common.{sym, ◌∙◌, inl, inr, ◌≡◌, ◌≢◌, ℕ, List, ◌∷◌, ◌++◌, ap, arith, get_or, append_assoc}
 use Rattle.std.specs.Prelude.{codes, decimal}
 use Rattle.std.proofs.lemmas.List.{append_cancel_left, append_cancel_right}
@@ -16,7 +16,7 @@ pub hierarchy-name-of : (key : VoxelKey) → codes "ept-hierarchy/" ++ (decimal 
 unfolding hierarchy_name key_text
 hierarchy-name-of key = simp append_assoc
 
--- two keys have two names
+-- two keys have different names
 pub one-tile : (a b : VoxelKey) → IsKey a → IsKey b → tile_name a ≡ tile_name b → a ≡ b
 unfolding tile_name
 one-tile a b is_a is_b same =
@@ -65,7 +65,7 @@ metadata-build same = let differ : 46 ≡ 45 = ap (λ (w : List ℕ). get_or w 3
 pub manifest-build : manifest_name ≢ build_file_name
 manifest-build same = let differ : 115 ≡ 98 = ap (λ (w : List ℕ). get_or w 4 0) same in absurd (omega (arith, differ))
 
--- no name of an output's file is in a folder that a build has for itself
+-- no name of an output's file is in a folder that only a build uses
 pub name-outside : (name : List ℕ) → IsOutputName name → IsOutsideWork name
 unfolding tile_name hierarchy_name
 name-outside name (inl (key, is)) = (

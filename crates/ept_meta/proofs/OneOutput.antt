@@ -30,7 +30,7 @@ module _ (axis : Point → ℤ) (points : List Point) (a b c d : ℤ) (first : I
   greatest_once : b ≡ d
   greatest_once = omega (arith, ints, (met c d b second first.greatest_is).1, (met a b d first second.greatest_is).1)
 
--- places of the same coordinates have the same text
+-- places with the same coordinates have the same text
 same_coordinate : (kept : Kept) (a b : Place) (axis : ℕ) → coordinate a axis ≡ coordinate b axis → coordinate_text kept a axis ≡ coordinate_text kept b axis
 unfolding coordinate_text
 same_coordinate kept a b axis same = rw same
@@ -46,11 +46,11 @@ same_extent kept points a b is_a is_b =
     let greatest = same_corner kept a.max b.max (greatest_once (λ p. p.x) points _ _ _ _ is_a.x is_b.x) (greatest_once (λ p. p.y) points _ _ _ _ is_a.y is_b.y) (greatest_once (λ p. p.z) points _ _ _ _ is_a.z is_b.z) in
     rw (least, greatest)
 
--- what has an extent is no empty list
+-- a list with an extent is not empty
 extent_of_none : (points : List Point) (extent : Bounds) → points ≡ [] → IsExtentOf points extent → ⊥
 extent_of_none points extent none is = let some = is.x.least_is in let below : some.0 < length points = some.2 in absurd (omega (arith, below, ap length none))
 
--- so their extents have one text, and so has the extent of all of them in the metadata
+-- so their extents have the same text, and so has the extent of all points in the metadata
 same_extent_text : (kept : Kept) (points : List Point) (a b : Option Bounds) → HasExtent points a → HasExtent points b → extent_text kept a ≡ extent_text kept b
 same_extent_text kept points None None is_a is_b = refl
 same_extent_text kept points None (Some b) is_a is_b = absurd (extent_of_none points b is_a is_b)

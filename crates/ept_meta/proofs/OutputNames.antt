@@ -1,4 +1,5 @@
--- The names of an output: each is one of the names of outputs, each stands once, and with more points they grow.
+-- The names of an output. Each is one of the names of outputs, no two are the same, and with more points all names
+-- remain.
 use Rattle.std.proofs.Common.{◌≡◌, ◌≢◌, ◌∙◌, inl, inr, ℕ, ◌<◌, Bool, true, false, cond, List, [], ◌∷◌, ◌++◌, map, filter, refl, sym, ap, subst, arith, append_assoc, Option}
 use Rattle.std.specs.Prelude.{⊤, AllPairs, Contains}
 use Rattle.std.specs.List.{All}
@@ -84,7 +85,7 @@ have-names kept points files is =
     (All-append IsOutputName (map hierarchy_name (filter (has_file kept.step) keys)) texts (all_mapped IsOutputName hierarchy_name (filter (has_file kept.step) keys) (λ k. inr (inl (k, refl))))
     (All-cons IsOutputName metadata_name (manifest_name ∷ build_file_name ∷ []) (inr (inr (inl refl))) (All-cons IsOutputName manifest_name (build_file_name ∷ []) (inr (inr (inr (inl refl)))) (All-cons IsOutputName build_file_name [] (inr (inr (inr (inr refl)))) (All-nil IsOutputName))))))
 
--- ---- each stands once
+-- ---- no two are the same
 
 abbrev AreApart : {X : Type 0} → List X → Type 0
 AreApart [] = ⊤
@@ -166,7 +167,7 @@ stand-once kept points files within is =
     let apart = names_apart kept.step (node_keys rules points) (IsRising-node_keys rules points) (λ k m. node-IsKey rules points k (cube-of-kept kept) (all-in-cube kept points within) (IsMember-node_keys rules points k m)) in
     subst (λ (w : List (List ℕ)). AllPairs (λ a b. a ≢ b) w) (sym (names-of-output kept points files is)) (apart_pairs (names kept.step (node_keys rules points)) apart)
 
--- ---- with more points they grow
+-- ---- with more points all names remain
 
 names_more : (step : ℕ) (keys more : List VoxelKey) → ((k : VoxelKey) → IsMember k keys → IsMember k more) → (name : List ℕ) → IsMember name (names step keys) → IsMember name (names step more)
 unfolding names

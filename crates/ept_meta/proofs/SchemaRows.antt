@@ -8,7 +8,7 @@ use Rattle.ept_meta.specs.declared.schema.Row.{Row}
 use Rattle.ept_meta.specs.declared.schema.Axis.{Axis}
 use Rattle.ept_meta.specs.Dimensions.{Field, schema_text, field_text, dimension_text, kind_of, fields, row_text, rows_text}
 
--- what a text tells of a dimension
+-- the name, kind, size and axis of a dimension
 abbrev Told : Type 0
 Told = List ℕ × Kind × ℕ × Option Axis
 

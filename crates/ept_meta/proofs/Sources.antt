@@ -1,4 +1,4 @@
--- Inputs beside their counts.
+-- Inputs, each with its count.
 use Rattle.std.proofs.Common.{◌≡◌, ◌∙◌, ℕ, ◌<◌, ◌≤◌, zero, suc, List, [], ◌∷◌, refl, length, get_or, sym, ap, arith, Some}
 use Rattle.std.specs.List.{zip, slice_get}
 use Rattle.std.proofs.lemmas.Option.{get_or_from_slice_get}

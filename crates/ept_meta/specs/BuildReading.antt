@@ -43,7 +43,7 @@ build_facts kept = record {
   inputs = map input_facts kept.inputs;
 }
 
--- a configuration with these bounds, without how much of the machine it uses
+-- a configuration with these bounds, except how much of the machine it uses
 abbrev pub within : Facts → Bounds → BuildFacts
 within facts bounds = record {
   scale = facts.scale;
@@ -59,15 +59,15 @@ within facts bounds = record {
   inputs = facts.inputs;
 }
 
--- a configuration with its bounds, where it has some
+-- a configuration with its bounds, if it has any
 abbrev pub with_bounds : Facts → Option BuildFacts
 with_bounds facts = option_map (within facts) facts.bounds
 
--- what bytes tell as the text of a configuration with bounds
+-- what bytes are read as: the text of a configuration with bounds
 unfoldable pub told : List ℕ → Option BuildFacts
 told bytes = option_and_then (λ d. option_and_then with_bounds (result_ok (value_reading d))) (document bytes)
 
--- ---- what the refusals of the readers are told as
+-- ---- the errors for the refusals of the readers
 
 abbrev pub of_json : JsonError → MetaError
 of_json json.NoText = Form

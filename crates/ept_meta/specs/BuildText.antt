@@ -12,7 +12,7 @@ use Rattle.ept_meta.specs.Classes.{members_of}
 use Rattle.ept_meta.specs.Json.{naturals_text, number_member, quoted, wholes, wholes_text}
 use Rattle.ept_meta.specs.SrsObject.{srs_text}
 
--- the bytes that the header of a scan is to have, in hexadecimal, where they were given
+-- the bytes that the header of a scan has to have, in hexadecimal, if they were given
 abbrev pub expect_text : Option (List ℕ) → List ℕ
 expect_text (Some bytes) = codes ",\"expect\":" ++ quoted (encode_lower bytes)
 expect_text None = []
@@ -49,17 +49,17 @@ abbrev pub flag_text : Bool → List ℕ
 flag_text true = codes "true"
 flag_text false = codes "false"
 
--- the member of the classes that come first, where there are some
+-- the member of the classes that come first, if there are any
 abbrev pub first_member : List ℕ → List ℕ
 first_member [] = []
 first_member (class ∷ classes) = codes ",\"firstClasses\":" ++ naturals_text (class ∷ classes)
 
--- the member that withheld points come last, where they do
+-- the member that withheld points come last, if they do
 abbrev pub last_member : Bool → List ℕ
 last_member true = codes ",\"withheldLast\":true"
 last_member false = []
 
--- all of it
+-- the whole text
 unfoldable pub build_text : Kept → List ℕ
 build_text kept =
     units_text kept ++ octree_text kept ++ codes ",\"srs\":" ++ srs_text kept.srs

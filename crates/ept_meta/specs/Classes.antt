@@ -8,6 +8,6 @@ use Rattle.ept_class.specs.ClassSet.{has_class}
 unfoldable pub members_below : ClassSet → ℕ → List ℕ
 members_below set n = filter (has_class set) (range_with_len 0 n)
 
--- all of them
+-- all members
 unfoldable pub members_of : ClassSet → List ℕ
 members_of set = members_below set 256

@@ -26,7 +26,7 @@ kind_name Signed = codes "signed"
 kind_name Unsigned = codes "unsigned"
 kind_name Float = codes "float"
 
--- a dimension of a packed point, and the axis that it is the coordinate on
+-- a dimension of a packed point, and its axis if it is a coordinate
 abbrev pub Field : Type 0
 Field = Dimension × Option Axis
 

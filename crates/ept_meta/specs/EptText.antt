@@ -7,19 +7,19 @@ use Rattle.ept_meta.specs.Units.{cube_text, bounds_text}
 use Rattle.ept_meta.specs.Dimensions.{schema_text}
 use Rattle.ept_meta.specs.SrsObject.{srs_text}
 
--- where the points lie: the cube, and the extent of the points, or the bounds where there are none
+-- where the points lie: the cube, and the extent of the points, or the bounds if there is no extent
 unfoldable pub place_text : Kept → Option Bounds → List ℕ
 place_text kept extent =
     codes "{\"bounds\":" ++ cube_text kept ++ codes ",\"boundsConforming\":"
     ++ bounds_text kept (unwrap_or extent kept.bounds)
 
--- what the tiles have: how many points there are, and what one of them is
+-- what the tiles have: the number of points, and the dimensions of a point
 unfoldable pub points_text : Kept → ℕ → List ℕ
 points_text kept points =
     codes ",\"dataType\":\"binary\",\"hierarchyType\":\"json\""
     ++ number_member (codes "points") points ++ codes ",\"schema\":" ++ schema_text kept
 
--- the metadata of so many points with this extent, built of what is kept
+-- the metadata of this number of points with this extent, built of what is kept
 unfoldable pub ept_text : Kept → Option Bounds → ℕ → List ℕ
 ept_text kept extent points =
     place_text kept extent ++ points_text kept points ++ number_member (codes "span") (2 ^ kept.s)

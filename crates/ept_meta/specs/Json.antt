@@ -3,7 +3,7 @@ use Rattle.std.specs.Prelude.{ℕ, ℤ, ◌||◌, ◌==◌, List, [], ◌∷◌,
 use Rattle.std.specs.List.{flat_map, join_by}
 use Rattle.std.specs.Fmt.{decimal, signed_decimal}
 
--- a byte of a string, with a backslash before a quotation mark (34) and a backslash (92)
+-- a byte of a string; a backslash is before a quotation mark (34) and before a backslash (92)
 abbrev pub escaped : ℕ → List ℕ
 escaped byte = if (byte == 34) || (byte == 92) then 92 ∷ byte ∷ [] else byte ∷ []
 
@@ -11,7 +11,7 @@ escaped byte = if (byte == 34) || (byte == 92) then 92 ∷ byte ∷ [] else byte
 unfoldable pub quoted : List ℕ → List ℕ
 quoted text = codes "\"" ++ flat_map escaped text ++ codes "\""
 
--- a member that is a number, behind other members
+-- a member that is a number, after other members
 unfoldable pub number_member : List ℕ → ℕ → List ℕ
 number_member key number = codes ",\"" ++ key ++ codes "\":" ++ decimal number
 

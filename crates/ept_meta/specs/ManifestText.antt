@@ -8,7 +8,7 @@ use Rattle.ept_config.specs.declared.source_count.SourceCount.{SourceCount}
 use Rattle.ept_meta.specs.Json.{number_member, quoted}
 use Rattle.ept_meta.specs.Units.{bounds_text}
 
--- the extent of a scan's points, where it has some
+-- the extent of a scan's points, if it has any
 abbrev pub extent_text : Kept → Option Bounds → List ℕ
 extent_text kept (Some extent) = codes ",\"bounds\":" ++ bounds_text kept extent
 extent_text kept None = []

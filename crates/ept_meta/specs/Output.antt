@@ -1,4 +1,4 @@
--- The files of the output: what the octree of some points is as files.
+-- The files of the output: the octree of some points as files.
 use Rattle.std.specs.Prelude.{◌≡◌, ◌⊎◌, ℕ, ◌<◌, ◌==◌, Option, List, [], ◌∷◌, ◌++◌, length, slice_index_or, codes, map, filter}
 use Rattle.ept_point.specs.declared.point.Point.{Point}
 use Rattle.ept_point.specs.Packed.{tile}
@@ -21,15 +21,15 @@ use Rattle.ept_meta.specs.BuildText.{build_text}
 
 -- ---- names (Entwine Point Tile 1.1.0)
 
--- of the tile of a key
+-- the name of the tile of a key
 unfoldable pub tile_name : VoxelKey → List ℕ
 tile_name key = codes "ept-data/" ++ key_text key ++ codes ".bin"
 
--- of the hierarchy file of a key
+-- the name of the hierarchy file of a key
 unfoldable pub hierarchy_name : VoxelKey → List ℕ
 hierarchy_name key = codes "ept-hierarchy/" ++ key_text key ++ codes ".json"
 
--- of the metadata, of the manifest of the scans, and of the file of what the output depends on
+-- the names of the metadata, of the manifest of the scans, and of the file of what the output depends on
 abbrev pub metadata_name : List ℕ
 metadata_name = codes "ept.json"
 
@@ -39,7 +39,7 @@ manifest_name = codes "ept-sources/manifest.json"
 abbrev pub build_file_name : List ℕ
 build_file_name = codes "ept-build.json"
 
--- the name is one of an output's files
+-- the name is that of a file of an output
 abbrev pub IsOutputName : List ℕ → Type 0
 IsOutputName name =
     ((key : VoxelKey) × (name ≡ tile_name key)) ⊎ ((key : VoxelKey) × (name ≡ hierarchy_name key))
@@ -49,11 +49,11 @@ IsOutputName name =
 abbrev pub IsIn : List ℕ → List ℕ → Type 0
 IsIn folder name = (rest : List ℕ) × (name ≡ folder ++ codes "/" ++ rest)
 
--- the name is in none of the folders that a build has for itself
+-- the name is in none of the folders that only a build uses
 abbrev pub IsOutsideWork : List ℕ → Type 0
 IsOutsideWork name = (¬ IsIn (codes "ept-work") name) × (¬ IsIn (codes "ept-spill") name)
 
--- each file of an output is outside them
+-- each file of an output is outside these folders
 abbrev pub EachIsOutsideWork : Type 0
 EachIsOutsideWork = (name : List ℕ) → IsOutputName name → IsOutsideWork name
 
@@ -82,7 +82,7 @@ rules_of kept = record {
   withheld_last = kept.withheld_last;
 }
 
--- the files of these tiles, of so many points with this extent: each tile, the hierarchy, and three texts
+-- The files of these tiles, of this number of points with this extent: each tile, the hierarchy, and three texts.
 abbrev pub files_of : Kept → List SourceCount → Option Bounds → ℕ → List Tile → List File
 files_of kept counts extent points tiles =
     map tile_file tiles ++ map hierarchy_file (hierarchy kept.step (map counted tiles))
@@ -103,7 +103,7 @@ pub record AreCountsOf (kept : Kept) (points : List Point) (counts : List Source
   pub each : length counts ≡ length kept.inputs
   pub counted : (source : ℕ) (none : SourceCount) → source < length counts → IsCountOf (points_from source points) (slice_index_or counts source none)
 
--- these are the files of the output of points: they follow from what is kept and the points alone
+-- these are the files of the output of points, and only what is kept and the points determine them
 pub record IsOutput (kept : Kept) (points : List Point) (files : List File) : Type 0 where
   pub counts : List SourceCount
   pub are_counts : AreCountsOf kept points counts

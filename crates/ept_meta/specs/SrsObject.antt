@@ -23,11 +23,11 @@ members srs =
     given (codes "authority") srs.authority ++ given (codes "horizontal") srs.horizontal
     ++ given (codes "vertical") srs.vertical ++ given (codes "wkt") srs.wkt
 
--- the object of them
+-- the object of these members
 unfoldable pub srs_text : Srs → List ℕ
 srs_text srs = codes "{" ++ join_by member_text (codes ",") (members srs) ++ codes "}"
 
--- what a member adds to an object that has some before it, or none
+-- what a member adds to an object, which has members already or not
 abbrev pub member_part : Bool → List ℕ → Option (List ℕ) → List ℕ
 member_part some key (Some text) = (if some then codes "," else []) ++ member_text (key, text)
 member_part some key None = []

@@ -7,7 +7,7 @@ use Rattle.ept_space.specs.OctreeCube.{OctreeCube}
 use Rattle.ept_space.specs.CubeOfBounds.{cube_of}
 use Rattle.ept_config.specs.declared.kept.Kept.{Kept}
 
--- the coordinate of a place on an axis: 10 ^ scale stored units are one native unit, and 0 is at the offset
+-- The coordinate of a place on an axis: 10 ^ scale stored units are one native unit, and 0 is at the offset.
 unfoldable pub coordinate_text : Kept → Place → ℕ → List ℕ
 coordinate_text kept place axis =
     decimal_text_of (coordinate place axis +ℤ coordinate kept.offset axis *ℤ pos (10 ^ kept.scale)) kept.scale
@@ -27,7 +27,7 @@ box_text kept least greatest =
 unfoldable pub bounds_text : Kept → Bounds → List ℕ
 bounds_text kept bounds = box_text kept bounds.min bounds.max
 
--- the corner of a cube whose coordinates are its side above those of the least one
+-- the corner of a cube whose coordinates exceed those of the least corner by the side
 unfoldable pub far_corner : OctreeCube → Place
 far_corner cube =
     (coordinate cube.corner 0 +ℤ pos (2 ^ cube.e))

@@ -18,10 +18,9 @@ use ept_config::{EXPECT_WIDTH, Input, Kept};
 use ept_point::Memory;
 use ept_space::Bounds;
 
-/// Appends the build file: all of the configuration that the output depends on, with the bounds in
-/// stored units.
+/// Appends the build file: everything in the configuration that the output depends on, with the bounds in stored units.
 ///
-/// The text is made beside `out` first, so where memory runs out, `out` is as it was.
+/// The text is made in a buffer of its own first. So if memory runs out, `out` is as it was.
 pub fn build_json(kept: &Kept, out: &mut Vec<u8>) -> Result<(), Memory>
     ensures text { OnOk result (out.new.items ≡ out.old.items ++ build_text kept.now) }
     ensures unchanged { OnErr result (out.new.items ≡ out.old.items) }

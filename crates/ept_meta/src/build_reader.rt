@@ -15,13 +15,13 @@ use std::alloc::Global;
 
 /// Reads a build file, as [`build_json`] writes it: what the output of a build depends on.
 ///
-/// It is read as a configuration, and what was read is written again and compared with the bytes. So bytes
-/// are accepted exactly where they are the build file of something: white space, another order of the keys
-/// or another spelling of a number is refused.
+/// The bytes are read as a configuration. The result is written again and compared with the bytes. So bytes are
+/// accepted if and only if they are the build file of a configuration. White space, another order of the keys or
+/// another spelling of a number is refused.
 ///
 /// # Errors
 ///
-/// `Form` where the bytes are the build file of nothing that an output depends on.
+/// `Form` if the bytes are not the build file of any configuration.
 #[tactic(auto, using(crate::proofs::BuildAgain::read_again, crate::proofs::BuildAgain::told_nothing))]
 pub fn read_build_json(alloc: Global, bytes: &[u8]) -> Result<Kept, MetaError>
     ensures ok { IfOk result (λ kept. bytes.now ≡ build_text kept) }
@@ -36,7 +36,7 @@ pub fn read_build_json(alloc: Global, bytes: &[u8]) -> Result<Kept, MetaError>
     }
 }
 
-// What bytes tell as the text of a configuration with bounds.
+// Reads bytes as the text of a configuration with bounds.
 #[tactic(auto, unfolding(crate::specs::BuildReading::told))]
 fn kept_in(alloc: Global, bytes: &[u8]) -> Result<Kept, MetaError>
     ensures told { IfOk result (λ kept. told bytes.now ≡ Some (build_facts kept)) }

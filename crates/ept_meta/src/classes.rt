@@ -31,7 +31,7 @@ pub(crate) fn append_classes(text: &mut Vec<u8>, set: &ClassSet) -> Result<(), M
     append_naturals(text, classes.as_slice())
 }
 
-/// Appends the member of the classes that come first, where there are some.
+/// Appends the member of the classes that come first, if there are any.
 pub(crate) fn append_first(text: &mut Vec<u8>, set: &ClassSet) -> Result<(), Memory>
     ensures { OnOk result (text.new.items ≡ text.old.items ++ first_member (members_of set.now)) }
 {
@@ -49,7 +49,7 @@ fn append_member(text: &mut Vec<u8>, classes: &[u8]) -> Result<(), Memory>
     Ok(())
 }
 
-/// Appends the member that withheld points come last, where they do.
+/// Appends the member that withheld points come last, if they do.
 pub(crate) fn append_last(text: &mut Vec<u8>, withheld_last: bool) -> Result<(), Memory>
     ensures { OnOk result (text.new.items ≡ text.old.items ++ last_member withheld_last) }
 {

@@ -27,7 +27,7 @@ pub enum Field {
     Input,
 }
 
-/// Appends the value of a field, as the build file has it. Where memory runs out, `out` is as it was.
+/// Appends the value of a field, as the build file has it. If memory runs out, `out` is as it was.
 pub fn field_json(kept: &Kept, field: Field, out: &mut Vec<u8>) -> Result<(), Memory>
     ensures text { OnOk result (out.new.items ≡ out.old.items ++ field_text field kept.now) }
     ensures unchanged { OnErr result (out.new.items ≡ out.old.items) }
@@ -38,7 +38,7 @@ pub fn field_json(kept: &Kept, field: Field, out: &mut Vec<u8>) -> Result<(), Me
     Ok(())
 }
 
-/// Appends an input, as the build file has it. Where memory runs out, `out` is as it was.
+/// Appends an input, as the build file has it. If memory runs out, `out` is as it was.
 pub fn input_json(input: &Input, out: &mut Vec<u8>) -> Result<(), Memory>
     ensures text { OnOk result (out.new.items ≡ out.old.items ++ input_text input.now) }
     ensures unchanged { OnErr result (out.new.items ≡ out.old.items) }

@@ -6,17 +6,18 @@ ghost use Rattle.ept_meta.specs.Output.{metadata_name, manifest_name, build_file
 
 use crate::names::{BUILD_FILE, MANIFEST, METADATA};
 
-/// Points have one output, whatever tells their counts and their extent; those that lie in the bounds can be
-/// sampled; and a build file is that of one configuration alone.
+/// Points have one output, whichever counts and extent describe them. A build file is that of one configuration only.
+/// Points within the bounds, no two of which have the same id, can be sampled.
 pub fn output_once_law()
     ensures one { OutputIsOne }
     ensures build { BuildFileIsOfOne }
     ensures sampled { PointsCanBeSampled }
 {}
 
-/// The three texts have the names of an output's files, each file of an output has such a name, no two have
-/// one, and no such name is in the folders `ept-work` and `ept-spill`, which a build has for itself. With
-/// more points under the same rules and step each name of an output stays one.
+/// The three texts are the names of files of an output, and each file of an output has such a name. If the points are
+/// within the bounds, no two files have the same name. No name of an output is in the folders `ept-work` and
+/// `ept-spill`, which only a build uses. With more points, under the same rules and step, each name of the output is
+/// still one of its names.
 pub fn output_names_law()
     ensures metadata { METADATA.now ≡ metadata_name }
     ensures manifest { MANIFEST.now ≡ manifest_name }

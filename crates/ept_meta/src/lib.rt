@@ -1,8 +1,7 @@
-//! What a finished dataset is as files: their names, and the texts that tell of it, which are its metadata
-//! (Entwine Point Tile 1.1.0, "ept.json"), the manifest of its scans ("ept-sources") and the file of what it
-//! was built with.
+//! A finished dataset as files: their names, and the texts that describe it. These are its metadata (Entwine Point Tile
+//! 1.1.0, "ept.json"), the manifest of its scans ("ept-sources"), and the file of what it was built with.
 //!
-//! Each text is JSON without white space outside its strings, appended to what a buffer has.
+//! Each text is JSON without white space outside its strings, and is appended to a buffer.
 #![tactic(auto)]
 
 mod build;

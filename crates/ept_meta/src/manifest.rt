@@ -10,11 +10,11 @@ use ept_config::{Input, Kept, SourceCount};
 use ept_point::Memory;
 use ept_space::Bounds;
 
-/// Appends the manifest of the inputs in order (Entwine Point Tile 1.1.0, "ept-sources"): the path of
-/// each, how many points it has, and their extent in native units where it has some.
+/// Appends the manifest of the inputs in order (Entwine Point Tile 1.1.0, "ept-sources"). It has the path of each, the
+/// number of its points, and their extent in native units if there are any.
 ///
-/// The counts are those of the inputs, in their order. The text is made beside `out` first, so where
-/// memory runs out, `out` is as it was.
+/// The counts are those of the inputs, in their order. The text is made in a buffer of its own first. So if memory runs
+/// out, `out` is as it was.
 pub fn manifest_json(kept: &Kept, counts: &[SourceCount], out: &mut Vec<u8>) -> Result<(), Memory>
     requires { length counts.now ≡ length kept.now.inputs }
     ensures text { OnOk result (out.new.items ≡ out.old.items ++ manifest_text kept.now counts.now) }

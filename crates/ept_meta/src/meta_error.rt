@@ -9,7 +9,7 @@ use ept_point::Memory;
 /// Why bytes are no build file.
 #[derive(Clone, Copy, Debug, PartialEq, Eq)]
 pub enum MetaError {
-    /// The bytes are the build file of nothing that an output depends on.
+    /// The bytes are not the build file of any configuration.
     Form,
     /// Memory ran out.
     Memory,
@@ -28,7 +28,7 @@ impl From<JsonError> for MetaError {
     }
 }
 
-/// Whatever a value is refused for as a configuration, it is no build file.
+/// A value that is refused as a configuration is no build file, whatever the cause.
 impl From<ConfigError> for MetaError {
     ghost use Rattle.ept_meta.specs.BuildReading.{of_config};
 

@@ -12,12 +12,12 @@ use ept_config::Kept;
 use ept_point::Memory;
 use ept_space::Bounds;
 
-/// Appends the metadata of a dataset (Entwine Point Tile 1.1.0, "ept.json"): the cube of its octree,
-/// the extent of its points in native units, how many points there are, what a point is made of, the
-/// span and the spatial reference.
+/// Appends the metadata of a dataset (Entwine Point Tile 1.1.0, "ept.json"). It has the cube of the octree, the extent
+/// of the points in native units, and the number of points. It also has the dimensions of a point, the span and the
+/// spatial reference.
 ///
-/// `extent` is in stored units. Where there is none, the bounds of the build stand for it. The text is
-/// made beside `out` first, so where memory runs out, `out` is as it was.
+/// `extent` is in stored units. If there is none, the bounds of the build are used. The text is made in a buffer of its
+/// own first. So if memory runs out, `out` is as it was.
 pub fn ept_json(
     kept: &Kept,
     extent: Option<&Bounds>,

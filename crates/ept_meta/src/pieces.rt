@@ -23,7 +23,7 @@ pub(crate) fn append_number(text: &mut Vec<u8>, number: u64) -> Result<(), Memor
     append(text, Buffer::new().format(number).as_bytes())
 }
 
-/// Appends a member that is a number, behind other members.
+/// Appends a member that is a number, after other members.
 #[tactic(auto, unfolding(crate::specs::Json::number_member))]
 pub(crate) fn append_number_member(
     text: &mut Vec<u8>,
@@ -39,7 +39,7 @@ pub(crate) fn append_number_member(
     Ok(())
 }
 
-/// Appends a comma where there are items or members before it.
+/// Appends a comma if there are items or members before it.
 pub(crate) fn append_comma(text: &mut Vec<u8>, some: bool) -> Result<(), Memory>
     ensures { OnOk result (text.new.items ≡ text.old.items ++ (if some then codes "," else [])) }
 {
@@ -106,7 +106,7 @@ fn append_small(text: &mut Vec<u8>, number: u8) -> Result<(), Memory>
     append_number(text, u64::from(number))
 }
 
-/// Appends a string. A backslash stands before each of its quotation marks and backslashes.
+/// Appends a string, with a backslash before each of its quotation marks and backslashes.
 #[tactic(auto, unfolding(crate::specs::Json::quoted))]
 pub(crate) fn append_quoted(text: &mut Vec<u8>, string: &str) -> Result<(), Memory>
     ensures { OnOk result (text.new.items ≡ text.old.items ++ quoted string.now) }

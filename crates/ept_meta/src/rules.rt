@@ -1,4 +1,4 @@
-//! The rules of the sampling of what is kept.
+//! The rules of the sampling, from what is kept.
 
 ghost use Rattle.std.specs.Prelude.{◌≡◌};
 ghost use Rattle.ept_space.specs.OctreeCube.{IsCube};

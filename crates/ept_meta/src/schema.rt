@@ -1,4 +1,4 @@
-//! The schema: what a packed point is made of.
+//! The schema: the dimensions of a packed point.
 
 ghost use Rattle.std.specs.Prelude.{◌≡◌, ◌≤◌, ◌++◌, pos, OnOk};
 ghost use Rattle.ept_num.specs.Decimals.{decimal_text_of};
@@ -21,7 +21,7 @@ impl Kind {
     ghost use Rattle.std.specs.Prelude.{◌≡◌};
     ghost use Rattle.ept_meta.specs.Dimensions.{kind_name, kind_of};
 
-    /// As the schema spells it.
+    /// The kind as the schema spells it.
     fn name(self) -> &'static str
         ensures { result.now ≡ kind_name (kind_of self) }
     {
@@ -33,7 +33,7 @@ impl Kind {
     }
 }
 
-/// An axis that a dimension is the coordinate on.
+/// The axis of a coordinate.
 #[derive(Clone, Copy)]
 enum Axis {
     X,
@@ -58,8 +58,8 @@ impl Axis {
     }
 }
 
-/// A row of the schema: the name of a dimension, how its bytes are read, how many there are, and the
-/// axis that it is the coordinate on.
+/// A row of the schema: the name of a dimension, how its bytes are read, and how many there are. If it is a coordinate,
+/// the row has its axis.
 #[derive(Clone, Copy)]
 struct Row(&'static str, Kind, usize, Option<Axis>);
 

@@ -7,7 +7,7 @@ use crate::pieces::{append, append_comma, append_quoted};
 use ept_config::Srs;
 use ept_point::{Memory, Text};
 
-/// Appends the spatial reference: an object of the keys that are there.
+/// Appends the spatial reference: an object of the texts that are there.
 #[tactic(auto, unfolding(crate::specs::SrsObject::srs_text))]
 pub(crate) fn append_srs(text: &mut Vec<u8>, srs: &Srs) -> Result<(), Memory>
     ensures { OnOk result (text.new.items ≡ text.old.items ++ srs_text srs.now) }
@@ -21,8 +21,8 @@ pub(crate) fn append_srs(text: &mut Vec<u8>, srs: &Srs) -> Result<(), Memory>
     Ok(())
 }
 
-// Appends a member where it is there, behind a comma where the object has `some` before it. Returns
-// whether the object has some then.
+// Appends a member if its text is there, after a comma if `some` says that the object has members already. Returns
+// whether the object then has members.
 #[tactic(auto, unfolding(crate::specs::SrsObject::member_text))]
 fn append_member(
     text: &mut Vec<u8>,

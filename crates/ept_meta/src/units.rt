@@ -13,7 +13,7 @@ use ept_num::decimal_text;
 use ept_point::Memory;
 use ept_space::{Bounds, Cube};
 
-/// Appends the cube of the octree: its least and its greatest corner.
+/// Appends the cube of the octree: its least corner and its greatest corner.
 #[tactic(auto, unfolding(crate::specs::Units::cube_text))]
 pub(crate) fn append_cube(text: &mut Vec<u8>, kept: &Kept) -> Result<(), Memory>
     ensures { OnOk result (text.new.items ≡ text.old.items ++ cube_text kept.now) }
@@ -104,7 +104,7 @@ fn append_coordinate(
     append(text, &digits[..length])
 }
 
-// How many stored units the place of the stored coordinate 0 is from the native one.
+// How many stored units the stored coordinate 0 is away from the native coordinate 0.
 fn origin(kept: &Kept, axis: usize) -> i64
     requires { axis < 3 }
     ensures value { result ≡ coordinate kept.now.offset axis *ℤ pos (10 ^ kept.now.scale) }
@@ -113,7 +113,7 @@ fn origin(kept: &Kept, axis: usize) -> i64
     kept.offset[axis] * 10i64.pow(u32::from(kept.scale))
 }
 
-/// The span: how many cells a node has an axis.
+/// The span: how many cells a node has on each axis.
 pub(crate) fn span(kept: &Kept) -> u64
     ensures { result ≡ 2 ^ kept.now.s }
 {

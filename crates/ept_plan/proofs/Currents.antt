@@ -1,4 +1,4 @@
--- Which checkpoint is the current one, and what is found or refused behind it.
+-- The current checkpoint, and what is found or refused after it.
 use Rattle.std.proofs.Common.{◌≡◌, ◌∙◌, refl, ap, sym, subst, Option, Some, None}
 use Rattle.std.specs.Prelude.{Result, IfOk, IfErr}
 use Rattle.std.specs.Option.{option_map, unwrap_or}
@@ -24,7 +24,7 @@ some_current (Some (letter, d)) o c is some =
     let same : d ≡ c = ap (λ (x : Option Checkpoint). unwrap_or x d) (sym is ∙ some) in
     (letter, ap (λ (x : Checkpoint). Some (letter, x)) same)
 
--- what holds where there is no checkpoint, and what holds behind one, whatever its letter
+-- what holds if there is no checkpoint, and what holds after one, whatever its letter
 module _ (P : Current → Type 0) (current : Current) (o : Option Checkpoint) (is : o ≡ option_map (λ c. c.1) current) where
   pub at-none : o ≡ None → P None → P current
   at-none none holds = subst P (sym (none_current current o is none)) holds

@@ -1,4 +1,4 @@
--- What is given of a configuration that goes on from what is kept.
+-- A configuration that continues what is kept.
 use Rattle.std.proofs.Common.{◌≡◌, ◌∙◌, ℕ, List, [], ◌∷◌, ◌++◌, length, refl, sym, ap, subst, arith, length-append}
 use Rattle.std.specs.Prelude.{All}
 use Rattle.std.proofs.Props.{props}
@@ -37,7 +37,7 @@ as-given config bounds kept a b of_a of_b field.FirstClasses is = of_b.first_is 
 as-given config bounds kept a b of_a of_b field.WithheldLast is = of_b.withheld_last_is ∙ (sym of_a.withheld_last_is ∙ is)
 as-given config bounds kept a b of_a of_b field.Input is = (is.0, of_b.inputs_is ∙ (sym of_a.inputs_is ∙ is.1))
 
--- what goes on does not differ
+-- a configuration that continues what is kept does not differ from it
 pub not-both : (config : Config) (kept a b : Kept) (d : Difference) → IsGiven config kept a → GoesOnFrom kept a → IsGiven config kept b → IsDifference kept b d → ⊥
 not-both config kept a b d is_a on is_b differs =
     let first = differs.first in
@@ -65,13 +65,13 @@ fields-same a b scale offset bounds s threshold depth step srs classes last inpu
   has_bounds = is_prop→PathP (λ j. BoundsInRange (bounds j)) (λ j. hlevel props) a.has_bounds b.has_bounds i;
 }
 
--- with the same bounds the same is kept of a configuration
+-- with the same bounds, the same is kept of a configuration
 pub kept-once : (config : Config) (bounds : Bounds) (a b : Kept) → IsKeptOf config bounds a → IsKeptOf config bounds b → a ≡ b
 kept-once config bounds a b of_a of_b =
     fields-same a b (of_a.scale_is ∙ sym of_b.scale_is) (of_a.offset_is ∙ sym of_b.offset_is) (of_a.bounds_is ∙ sym of_b.bounds_is) (of_a.s_is ∙ sym of_b.s_is) (of_a.threshold_is ∙ sym of_b.threshold_is) (of_a.max_depth_is ∙ sym of_b.max_depth_is) (of_a.step_is ∙ sym of_b.step_is) (of_a.srs_is ∙ sym of_b.srs_is) (of_a.first_is ∙ sym of_b.first_is) (of_a.withheld_last_is ∙ sym of_b.withheld_last_is) (of_a.inputs_is ∙ sym of_b.inputs_is)
 
 module _ (config : Config) (kept given : Kept) (is : IsGiven config kept given) (on : GoesOnFrom kept given) where
-  -- the scale and the bounds are those that are kept, and the kept inputs are the first ones
+  -- the scale, the bounds and the step are the kept ones, and the kept inputs are the first ones
   pub scale-kept : kept.scale ≡ config.scale
   scale-kept = sym (on 0 field.Scale (omega arith)) ∙ is.scale_is
 
@@ -96,7 +96,7 @@ module _ (config : Config) (kept given : Kept) (is : IsGiven config kept given) 
       let last : given.withheld_last ≡ kept.withheld_last = on 9 field.Scale (omega arith) in
       λ i. record { cube = cube i; threshold = threshold i; first = classes i; withheld_last = last i }
 
-  -- where no input is added, all is kept
+  -- if no input is added, all is kept
   pub same-kept : length kept.inputs ≡ length given.inputs → given ≡ kept
   same-kept number =
       let first : ArePrefix kept.inputs given.inputs = on 10 field.Scale (omega arith) in

@@ -1,4 +1,4 @@
--- What an answer says of each cause.
+-- What a result means for each cause.
 use Rattle.std.proofs.Common.{◌≡◌, ◌∙◌, ◌⊎◌, inl, inr, List, refl, ap, subst, Option, Some, None}
 use Rattle.std.specs.Prelude.{◌≢◌, Result, Ok, Err, IsOk, IfOk, IfErr}
 use Rattle.ept_base.specs.Files.{Files, Tells}
@@ -20,7 +20,7 @@ use Rattle.ept_plan.specs.Steps.{IsFound, WhyNot}
 use Rattle.ept_plan.proofs.Fields.{not-both}
 use Rattle.ept_plan.proofs.Scanned.{new-scanned, all-scanned}
 
--- a refusal is a fault, or want of memory, or blames the inputs
+-- a refusal is a fault, or running out of memory, or it blames the inputs
 abbrev IsCause : ScanError → Type 1
 IsCause f = (P : Type 0) → Blames f P → P
 
@@ -37,7 +37,7 @@ kind_of (scan.BadLas source fault) = of_cause (λ P p. p)
 kind_of (scan.OutOfBounds source number) = of_cause (λ P p. p)
 kind_of (scan.TooManyPoints source) = of_cause (λ P p. p)
 
--- one that blames the inputs does
+-- a definite refusal blames the inputs
 definite : (f : ScanError) → IsDefinite f → IsCause f
 definite f is = elim (kind_of f) [
   | of_fault same ↦ absurd (is.0 same)

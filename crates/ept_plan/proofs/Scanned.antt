@@ -24,7 +24,7 @@ module _ (all : Files) (config : Config) where
   moved : (bounds : Bounds) (a b : List Input) → a ≡ b → (from : ℕ) (points : List Point) (done : ScanDone) → IsScan all config.scale (Some bounds) a from points done → IsScan all config.scale (Some bounds) b from points done
   moved bounds a b same from points done scan = subst (λ (l : List Input). IsScan all config.scale (Some bounds) l from points done) same scan
 
-  -- a scan of all inputs is one of the new ones
+  -- a scan of all inputs has a scan of the new ones
   pub new-scanned : (current : Current) (points : List Point) (done : ScanDone) → GoesOn config current
       → IsScan all config.scale (limits_by config.bounds current) config.inputs 0 points done
       → (others : List Point) × (found : ScanDone) × IsScan all config.scale (limits_by config.bounds current) config.inputs (inputs_by current) others found

@@ -72,7 +72,7 @@ first-found files config done plan kept each counted extents scan counts points 
       files scan;
 }
 
--- ---- what is found behind a checkpoint
+-- ---- what is found after a checkpoint
 
 module _ (config : Config) (c : Checkpoint) (counts : List SourceCount) (files : Option Files) (added : AddsCounts files config c counts) where
   pub all-each : length counts ≡ length config.inputs
@@ -87,7 +87,7 @@ module _ (config : Config) (c : Checkpoint) (counts : List SourceCount) (files :
   most : c.inserted ≤ total counts
   most = omega (arith, c.is_checkpoint.inserted_most, ap total added.counts_are, sum_by-append (λ (count : SourceCount). count.points) c.counts added.more)
 
-  -- where no input is added, no count is
+  -- if no input is added, no count is added
   same_counts : length added.more ≡ 0 → counts ≡ c.counts
   same_counts none = added.counts_are ∙ (ap (λ (l : List SourceCount). c.counts ++ l) (nothing added.more none) ∙ append-nil c.counts)
 

@@ -1,4 +1,4 @@
--- What a build is to do: which inputs are new behind the current checkpoint, and what is known of all.
+-- What a build has to do: which inputs the current checkpoint does not have, and what is known of all inputs.
 use Rattle.std.specs.Prelude.{◌≡◌, ◌≢◌, ◌⊎◌, ℕ, ◌≤◌, List, [], ◌++◌, length, take, Option, Some, None, Result, Err, All, ⊤}
 use Rattle.ept_base.specs.Files.{Files}
 use Rattle.ept_point.specs.declared.point.Point.{Point}
@@ -22,7 +22,7 @@ use Rattle.ept_plan.specs.declared.error.PlanError.{PlanError}
 use Rattle.ept_plan.specs.declared.error.PlanError.TheVariants.{Differs, Scan}
 use Rattle.ept_plan.specs.declared.plan.Plan.{Plan}
 
--- ---- what the current checkpoint tells
+-- ---- what the current checkpoint keeps
 
 -- how many inputs it has, and how many points are inserted
 abbrev pub inputs_by : Current → ℕ
@@ -33,33 +33,33 @@ abbrev pub inserted_by : Current → ℕ
 inserted_by None = 0
 inserted_by (Some (letter, c)) = c.inserted
 
--- where points may lie: within the bounds that the checkpoint keeps, or where there is none within the given ones
+-- where points may lie: within the bounds of the checkpoint, or if there is no checkpoint within the given ones
 abbrev pub limits_by : Option Bounds → Current → Option Bounds
 limits_by given None = given
 limits_by given (Some (letter, c)) = Some c.kept.bounds
 
--- its inputs have these points
+-- the checkpoint's inputs have these points
 abbrev pub HasFirst : Files → Current → List Point → Type 0
 HasFirst shelf None first = first ≡ []
 HasFirst shelf (Some (letter, c)) first = HasPointsOf shelf c first
 
 -- ---- what is given
 
--- the given bounds, or else the kept ones
+-- the given bounds, or if there are none the kept ones
 abbrev pub bounds_or : Option Bounds → Bounds → Bounds
 bounds_or None kept = kept
 bounds_or (Some given) kept = given
 
--- what is given of the configuration, where so much is kept
+-- what a build of the configuration would keep, with the kept bounds if none are given
 abbrev pub IsGiven : Config → Kept → Kept → Type 0
 IsGiven config kept given = IsKeptOf config (bounds_or config.bounds kept.bounds) given
 
--- the configuration goes on from what is kept
+-- the configuration continues what is kept
 abbrev pub GoesOn : Config → Current → Type 0
 GoesOn config None = ⊤
 GoesOn config (Some (letter, c)) = (given : Kept) × IsGiven config c.kept given × GoesOnFrom c.kept given
 
--- what is given differs from what the checkpoint keeps: this is the first field that does, with both texts
+-- The configuration differs from what the checkpoint keeps. This is the first field that differs, with both texts.
 abbrev pub DiffersBy : Config → Current → Difference → Type 0
 DiffersBy config None d = ⊥
 DiffersBy config (Some (letter, c)) d = (given : Kept) × IsGiven config c.kept given × IsDifference c.kept given d
@@ -81,7 +81,8 @@ abbrev pub IsOf : Plan → Current → Type 0
 IsOf plan None = ⊥
 IsOf plan (Some (letter, c)) = (c.kept ≡ plan.kept) × (c.counts ≡ plan.counts)
 
--- What holds of a plan whatever the shelf tells: there is a count for each input, of which the first ones are those of the checkpoint.
+-- What holds of a plan whatever the shelf makes visible: there is a count for each input, first those of the
+-- checkpoint.
 pub record IsPlan (config : Config) (current : Current) (plan : Plan) : Type 0 where
   pub kept_is : IsKeptOf config plan.kept.bounds plan.kept
   pub goes_on : GoesOn config current
@@ -102,32 +103,32 @@ abbrev pub HasPoints : Files → Config → Current → Plan → List Point → 
 HasPoints shelf config current plan points =
     IsScan shelf config.scale (limits_by config.bounds current) config.inputs 0 points (record { counts = plan.counts; bounds = plan.kept.bounds })
 
--- where the checkpoint's inputs have some points, all inputs have these and more behind them
+-- if the checkpoint's inputs have some points, all inputs have these points and more after them
 abbrev pub ScansAll : Files → Config → Current → Plan → Type 0
 ScansAll shelf config current plan =
     (first : List Point) → HasFirst shelf current first → (points : List Point) × HasPoints shelf config current plan points × (take (length first) points ≡ first)
 
--- ---- why there is none
+-- ---- why there is no plan
 
 -- the new inputs are refused for this cause
 abbrev pub AreRefused : Files → Config → Current → ScanError → Type 0
 AreRefused shelf config current error =
     ScanIsRefused shelf config.scale (limits_by config.bounds current) config.inputs (inputs_by current) error
 
--- Why there is no plan: what is kept is compared before an input is opened. Memory may run out before that.
+-- Why there is no plan. What is kept is compared before an input is opened. Memory may run out before that.
 abbrev pub IsRefused : Files → Config → Current → PlanError → Type 0
 IsRefused shelf config current (Differs d) = DiffersBy config current d
 IsRefused shelf config current (Scan e) = AreRefused shelf config current e × (e ≢ scan.Memory → GoesOn config current)
 
--- a cause that lies in the inputs: no fault of the shelf, and no want of memory
+-- a cause in the inputs: neither a fault of the shelf nor running out of memory
 abbrev pub IsDefinite : ScanError → Type 0
 IsDefinite e = (e ≢ scan.SourceFault) × (e ≢ scan.Memory)
 
--- the answer is a fault of the shelf, or want of memory
+-- the result is a fault of the shelf, or running out of memory
 abbrev pub Stops : {T : Type 0} → Result T PlanError → Type 0
 Stops answer = (answer ≡ Err (Scan scan.SourceFault)) ⊎ (answer ≡ Err (Scan scan.Memory))
 
--- the answer is a field that differs, or want of memory
+-- the result is a field that differs, or running out of memory
 abbrev pub TellsDifference : {T : Type 0} → Result T PlanError → Type 0
 TellsDifference answer = ((d : Difference) × (answer ≡ Err (Differs d))) ⊎ (answer ≡ Err (Scan scan.Memory))
 

@@ -1,4 +1,4 @@
--- The steps of a plan: what is given, what is found of the inputs behind the checkpoint's, and why there is no plan.
+-- The steps of a plan: what is given, what is found of the new inputs, and why there is no plan.
 use Rattle.std.specs.Prelude.{◌≡◌, ◌≢◌, ◌+◌, List, [], ◌++◌, Option, Some, None, length, All}
 use Rattle.ept_base.specs.Files.{Files, Tells}
 use Rattle.ept_point.specs.declared.point.Point.{Point}
@@ -18,7 +18,7 @@ use Rattle.ept_plan.specs.declared.error.PlanError.TheVariants.{Differs, Scan}
 use Rattle.ept_plan.specs.declared.plan.Plan.{Plan}
 use Rattle.ept_plan.specs.Plans.{inputs_by, limits_by, IsGiven, GoesOn, DiffersBy, AreRefused, IsPlan}
 
--- why a configuration does not go on from what is kept: what is given differs, or memory ran out before that was known
+-- Why a configuration does not continue what is kept. Either a field differs, or memory ran out before that was known.
 abbrev pub DoesNotGoOn : Config → Kept → PlanError → Type 0
 DoesNotGoOn config kept (Differs d) = (given : Kept) × IsGiven config kept given × IsDifference kept given d
 DoesNotGoOn config kept (Scan e) = e ≡ scan.Memory
@@ -28,7 +28,7 @@ abbrev pub ScansNew : Files → Config → Current → List SourceCount → Boun
 ScansNew shelf config current more bounds = (points : List Point)
     × IsScan shelf config.scale (limits_by config.bounds current) config.inputs (inputs_by current) points (record { counts = more; bounds = bounds })
 
--- behind the counts of the checkpoint stand those of the new inputs, as they are scanned within its bounds
+-- after the counts of the checkpoint come those of the new inputs, which are scanned within its bounds
 pub record AddsCounts (files : Option Files) (config : Config) (c : Checkpoint) (counts : List SourceCount) : Type 0 where
   pub more : List SourceCount
   pub counts_are : counts ≡ c.counts ++ more
@@ -37,7 +37,7 @@ pub record AddsCounts (files : Option Files) (config : Config) (c : Checkpoint) 
   pub extents : All ExtentInRange more
   pub scan : Tells (λ all. (points : List Point) × IsScan all config.scale (Some c.kept.bounds) config.inputs (length c.kept.inputs) points (record { counts = more; bounds = c.kept.bounds })) files
 
--- the counts that the checkpoint tells
+-- the counts of the checkpoint
 abbrev pub counts_by : Current → List SourceCount
 counts_by None = []
 counts_by (Some (letter, c)) = c.counts
@@ -49,7 +49,7 @@ pub record IsFound (files : Option Files) (config : Config) (current : Current) 
   pub counts_are : plan.counts ≡ counts_by current ++ more
   pub scan : Tells (λ all. ScansNew all config current more plan.kept.bounds) files
 
--- why there is no plan: what differs does not depend on the shelf
+-- Why there is no plan. Which field differs does not depend on the shelf.
 abbrev pub WhyNot : Option Files → Config → Current → PlanError → Type 0
 WhyNot files config current (Differs d) = DiffersBy config current d
 WhyNot files config current (Scan e) = Tells (λ all. AreRefused all config current e) files × (e ≢ scan.Memory → GoesOn config current)

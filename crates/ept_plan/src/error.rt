@@ -7,7 +7,7 @@ use ept_scan::ScanError;
 /// Why there is no plan for a build.
 #[derive(Debug, Drop)]
 pub enum PlanError {
-    /// What is given differs from what the current checkpoint keeps.
+    /// The configuration differs from what the current checkpoint keeps.
     Differs(Difference),
     /// The inputs that the current checkpoint does not have are refused, or memory ran out.
     Scan(ScanError),

@@ -1,4 +1,4 @@
-//! What counts keep.
+//! The ranges of counts.
 
 ghost use Rattle.std.specs.List.{All};
 ghost use Rattle.ept_config.specs.Counts.{IsCount};
@@ -7,7 +7,7 @@ ghost use Rattle.ept_ckpt.specs.Valid.{ExtentInRange};
 use ept_config::{SourceCount, bounds_known};
 use ept_space::Bounds;
 
-/// Tells a proof that the numbers of the extents are of 32 bits.
+/// Makes known to the caller's proof that the numbers of the extents have 32 bits. Does nothing at run time.
 pub(crate) fn extents_known(bounds: &Bounds, counts: &[SourceCount])
     requires { All (IsCount bounds.now) counts.now }
     ensures { All ExtentInRange counts.now }

@@ -1,4 +1,4 @@
-//! What is given of a configuration, against what is kept.
+//! What a configuration gives, compared with what is kept.
 
 ghost use Rattle.std.specs.Prelude.{◌≡◌, IfOk, IfErr};
 ghost use Rattle.ept_space.specs.CubeOfBounds.{HasPlace};
@@ -12,7 +12,7 @@ use ept_config_diff::first_difference;
 use ept_space::Bounds;
 use std::alloc::Global;
 
-/// What is given of a configuration that goes on from what is kept.
+/// Returns what a build of the configuration would keep, if the configuration continues what is kept.
 pub(crate) fn given_of(alloc: Global, config: &Config, kept: &Kept) -> Result<Kept, PlanError>
     ensures given { IfOk result (IsGiven config.now kept.now) }
     ensures goes_on { IfOk result (GoesOnFrom kept.now) }
@@ -26,7 +26,7 @@ pub(crate) fn given_of(alloc: Global, config: &Config, kept: &Kept) -> Result<Ke
     }
 }
 
-// The given bounds, or else the kept ones.
+// The given bounds, or if there are none the kept ones.
 fn bounds_or(config: &Config, kept: &Kept) -> Bounds
     ensures value { result ≡ bounds_or config.now.bounds kept.now.bounds }
     ensures ordered { HasPlace result }

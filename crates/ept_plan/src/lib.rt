@@ -1,5 +1,5 @@
-//! What a build is to do: whether its configuration goes on from the current checkpoint, and what the inputs are
-//! that this does not have.
+//! What a build has to do: whether its configuration continues from the current checkpoint, and which inputs the
+//! checkpoint does not have.
 #![tactic(auto)]
 
 mod error;

@@ -16,8 +16,8 @@ use ept_point::List;
 use ept_scan::{ScanError, scan};
 use std::alloc::{AllocError, Global};
 
-/// The counts of all inputs: those of the checkpoint, and behind them those of the inputs that it does not have,
-/// which are scanned within its bounds.
+/// The counts of all inputs: those of the checkpoint, and after them those of the inputs that it does not have. The
+/// latter are scanned within its bounds.
 pub(crate) fn all_counts<H: Shelf>(
     alloc: Global,
     config: &Config,
@@ -42,7 +42,7 @@ pub(crate) fn all_counts<H: Shelf>(
     Ok(List::of(counts))
 }
 
-// The counts of both, in order.
+// The first counts and then the others.
 fn joined(
     alloc: Global,
     first: &[SourceCount],

@@ -25,7 +25,7 @@ use ept_save::Saved;
 use ept_scan::{ScanError, scan};
 use std::alloc::Global;
 
-/// What a build is to do: the octree of all inputs, of whose points some are inserted already.
+/// What a build has to do: the octree of all inputs, some of whose points may be inserted already.
 #[derive(Drop)]
 pub struct Plan {
     /// What the output depends on.
@@ -34,17 +34,16 @@ pub struct Plan {
     pub counts: List<SourceCount>,
     /// The number of all points.
     pub points: u64,
-    /// How many of them are inserted already.
+    /// How many points are inserted already.
     pub inserted: u64,
 }
 
-/// Compares the configuration with what the current checkpoint keeps, and scans the inputs that this does not
+/// Compares the configuration with what the current checkpoint keeps, and scans the inputs that the checkpoint does not
 /// have. The inputs that it has are not opened.
 ///
 /// # Errors
 ///
-/// `Differs` with the first field that differs, before an input is opened; then the refusals of
-/// [`scan`](ept_scan::scan).
+/// `Differs` with the first field that differs, before an input is opened. Then the errors of [`scan`](ept_scan::scan).
 pub fn make_plan<H: Shelf>(
     alloc: Global,
     config: &Config,
@@ -55,7 +54,7 @@ pub fn make_plan<H: Shelf>(
     ensures scan { IfOk result (λ found. Tells
         (λ all. ScansAll all config.now saved.now.current found) (H.files shelf.old)) }
 
-    // Why it is refused, and when. What differs does not depend on the shelf.
+    // Why there is no plan, and when. Which field differs does not depend on the shelf.
     ensures refused { IfErr result (λ e. Tells (λ all. IsRefused all config.now saved.now.current e) (H.files shelf.old)) }
     ensures differs { (d : differing.Difference) → result ≡ Err (PlanError.Differs d)
         → DiffersBy config.now saved.now.current d }
@@ -67,7 +66,7 @@ pub fn make_plan<H: Shelf>(
         → IsScan all config.now.scale (limits_by config.now.bounds saved.now.current) config.now.inputs 0 points done
         → IsOk result ⊎ Stops result) (H.files shelf.old) }
 
-    // What the shelf is asked for: the new inputs in order, each once, and nothing where a field differs.
+    // What the shelf is asked for: the new inputs in order, each once, and nothing if a field differs.
     ensures asked { OpensThese (new_paths config.now saved.now.current) result (H.asked shelf.old) (H.asked shelf.new) }
     ensures differs_first { ¬ GoesOn config.now saved.now.current → shelf.new ≡ shelf.old }
     ensures files { H.files shelf.new ≡ H.files shelf.old }
@@ -79,11 +78,11 @@ pub fn make_plan<H: Shelf>(
     }
 }
 
-/// The plan of a first build, in a folder without a checkpoint: scans all inputs.
+/// Makes the plan of a first build, in a folder without a checkpoint. It scans all inputs.
 ///
 /// # Errors
 ///
-/// The refusals of [`scan`](ept_scan::scan). `Differs` never comes.
+/// Those of [`scan`](ept_scan::scan), and never `Differs`.
 pub fn first_plan<H: Shelf>(
     alloc: Global,
     config: &Config,
@@ -107,7 +106,7 @@ pub fn first_plan<H: Shelf>(
     })
 }
 
-// The plan of a build behind a checkpoint, whatever the letter of its body.
+// The plan of a build that continues from a checkpoint, whatever the letter of its body.
 fn next_plan<H: Shelf>(
     alloc: Global,
     config: &Config,

@@ -1,4 +1,4 @@
--- The points of a scan stand in the order of their ids, and no two have one id.
+-- The points of a scan are in the order of their ids, and no two have the same id.
 use Rattle.std.proofs.Common.{◌≡◌, ⊎_elim, ℕ, zero, suc, ◌+◌, ◌<◌, ◌≤◌, List, [], ◌∷◌, ◌++◌, Option, length, get_or, sym, ◌∙◌, subst, arith, inl, inr}
 use Rattle.std.specs.Prelude.{All}
 use Rattle.std.specs.List.{AllZip}
@@ -18,12 +18,12 @@ use Rattle.ept_scan.specs.Laws.{HaveDistinctIds}
 use Rattle.ept_scan.specs.Scans.{in_order, HasPointsAt, IsScan}
 use Rattle.ept_scan.proofs.Scanned.{all_in_order}
 
--- the points come from this input, and from one record after the other, from this number on
+-- the points come from this input, one record after the other, from this number on
 abbrev AreNumbered : ℕ → ℕ → List Point → Type 0
 AreNumbered i n points = (k : ℕ) (d : Point) → k < length points → ((get_or points k d).origin ≡ i) × ((get_or points k d).number ≡ n + k)
 
 module _ (i : ℕ) where
-  -- behind a point of an input comes its next one, or one of a later input
+  -- after a point of an input comes its next one, or one of a later input
   followed : (n : ℕ) (p : Point) (points later : List Point) → AreNumbered i n (p ∷ points) → All (λ q. i < q.origin) later → FollowedBy p (points ++ later)
   followed n p [] [] are behind = tt
   followed n p [] (q ∷ later) are behind = inl (omega (arith, (are 0 p (omega arith)).0, behind 0 q (omega arith)))
@@ -32,7 +32,7 @@ module _ (i : ℕ) where
       let next = are 1 p (omega arith) in
       inr (here.0 ∙ sym next.0, omega (arith, here.1, next.1))
 
-  -- the points of an input ascend, and go on ascending with those of later inputs
+  -- the points of an input ascend, and then those of later inputs do
   ascend_on : (n : ℕ) (points later : List Point) → AreNumbered i n points → All (λ q. i < q.origin) later → IsAscending later → IsAscending (points ++ later)
   ascend_on n [] later are behind up = up
   ascend_on n (p ∷ points) later are behind up = (
@@ -50,7 +50,7 @@ lists_ascend i (l ∷ lists) each =
       All-append (λ p. i ≤ p.origin) l (in_order lists) (λ k d lt. omega (arith, (here k d lt).0)) (All-weaker (λ p. i + 1 ≤ p.origin) (λ p. i ≤ p.origin) (λ p h. omega (arith, h)) (in_order lists) others.1),
     )
 
--- where no input has more points than that, they have numbers below it
+-- if no input has more than `most` points, they have numbers below it
 numbers_below : (i most : ℕ) (lists : List (List Point)) (counts : List SourceCount) → AllZip IsCountOf lists counts → All (λ count. count.points ≤ most) counts
     → ((k : ℕ) (d : List Point) → k < length lists → AreNumbered (i + k) 0 (get_or lists k d)) → All (λ p. p.number < most) (in_order lists)
 numbers_below i most [] counts zip few each = All-nil (λ p. p.number < most)
@@ -66,14 +66,14 @@ first_before p [] k d up lt = absurd (omega (arith, lt))
 first_before p (q ∷ points) zero d up lt = up.0
 first_before p (q ∷ points) (suc k) d up lt = before_trans (id p) (id q) (id (get_or points k d)) up.0 (first_before q points k d up.1 (omega (arith, lt)))
 
--- of two ascending points the one that stands first comes first
+-- of two ascending points the one at the lower place comes first
 one_before : (points : List Point) (i j : ℕ) (d : Point) → IsAscending points → i < j → j < length points → IsBefore (id (get_or points i d)) (id (get_or points j d))
 one_before [] i j d up less lt = absurd (omega (arith, lt))
 one_before (p ∷ points) i zero d up less lt = absurd (omega (arith, less))
 one_before (p ∷ points) zero (suc j) d up less lt = first_before p points j d up (omega (arith, lt))
 one_before (p ∷ points) (suc i) (suc j) d up less lt = one_before points i j d up.1 (omega (arith, less)) (omega (arith, lt))
 
--- so no two of them have one id
+-- so no two of them have the same id
 distinct : (points : List Point) → IsAscending points → HaveDistinctIds points
 distinct points up i j d lt_i lt_j same =
     ⊎_elim (λ (less : i < j). absurd (not_before_itself (id (get_or points j d)) (subst (λ (a : PointId). IsBefore a (id (get_or points j d))) same (one_before points i j d up less lt_j))))

@@ -1,4 +1,4 @@
--- Paths that a shelf is asked for one after the other.
+-- Paths that a shelf is asked to open, one after the other.
 use Rattle.std.proofs.Common.{◌≡◌, ℕ, zero, suc, ◌+◌, ◌-◌, ◌<◌, ◌≤◌, List, [], ◌∷◌, ◌++◌, Option, Some, None, Result, Ok, Err, length, take, drop, get_or, refl, sym, ◌∙◌, ap, subst, arith, append_assoc, length-append, length-drop}
 use Rattle.std.specs.Prelude.{Bool, IfErr, cond, map, slice_get}
 use Rattle.std.proofs.lemmas.Bool.{lt-ltb, le-ltb}
@@ -19,7 +19,7 @@ use Rattle.ept_scan.specs.Scans.{Blames}
 use Rattle.ept_scan.specs.Asking.{AsksFor, OpensThese, OpensUpTo, StopsAt, paths_from, path_left, paths_left}
 use Rattle.ept_scan.proofs.OneScan.{blames}
 
--- the front of these paths was asked for, and these are left
+-- a prefix of these paths was asked for, and these are left
 abbrev pub HasAsked : List (List ℕ) → List (List ℕ) → Option (List (List ℕ)) → Option (List (List ℕ)) → Type 0
 HasAsked all rest old now = StepsBy (λ before after. (done : List (List ℕ)) × (after ≡ before ++ done) × (all ≡ done ++ rest)) old now
 
@@ -57,7 +57,7 @@ asked_failed all mine rest old now new has asks =
     let parts : mine ++ rest ≡ take asks.0 mine ++ (drop asks.0 mine ++ rest) = ap (λ (l : List (List ℕ)). l ++ rest) (sym (take-append-drop asks.0 mine)) ∙ append_assoc (take asks.0 mine) (drop asks.0 mine) rest in
     asked_front all (drop asks.0 mine ++ rest) old new (asked_more all (take asks.0 mine) (drop asks.0 mine ++ rest) old now new (subst (λ (l : List (List ℕ)). HasAsked all l old now) parts has) asks.1)
 
--- one path, whatever comes of its file
+-- one path, whatever the result for its file
 pub opens_one : {T E : Type 0} (path : List ℕ) (r : Result T E) (old new : Option (List (List ℕ))) → AsksFor (path ∷ []) old new → OpensThese (path ∷ []) r old new
 opens_one path (Ok v) old new asks = asks
 opens_one path (Err e) old new asks = (1, asks)
@@ -72,7 +72,7 @@ opens_refused T path get.Memory old new asks = (0, same old new asks)
     same (Some a) None asks = absurd asks
     same (Some a) (Some b) asks = asks ∙ sym (append-nil a)
 
--- so many were asked for
+-- the first n were asked for
 asked_count : (all rest : List (List ℕ)) (n : ℕ) (old now : Option (List (List ℕ))) → length all ≡ n + length rest → HasAsked all rest old now → AsksFor (take n all) old now
 asked_count all rest n None None size has = tt
 asked_count all rest n None (Some b) size has = absurd has
@@ -117,7 +117,7 @@ module _ (inputs : List Input) (from i : ℕ) (input : Input) (is : slice_get in
   stops_here origin (OutOfBounds source number) here named asks = at_input source (named ∙ here) asks
   stops_here origin (TooManyPoints source) here named asks = at_input source (named ∙ here) asks
 
--- what a source that cannot be had says of an input
+-- what a source that cannot be opened means for an input
 pub names_none : (origin : ℕ) (e : GetError) → NamesInput origin (scan_error_of e)
 names_none origin get.Failed = tt
 names_none origin get.Memory = tt
@@ -130,7 +130,7 @@ pub refused_blames : {T : Type 0} (r : Result T ScanError) (fact : Type 0) → f
 refused_blames (Ok v) fact is = tt
 refused_blames (Err e) fact is = blames e fact is
 
--- those of which records are left
+-- the paths of the inputs of which records are left
 left_at : (inputs : List Input) (counts : List SourceCount) (input : Input) (count : SourceCount) → paths_left (input ∷ inputs) (count ∷ counts) 0 ≡ path_left input count 0 ++ paths_left inputs counts 0
 left_at inputs counts input count = ap (λ (n : ℕ). path_left input count 0 ++ paths_left inputs counts n) (none count.points)
   where
@@ -156,7 +156,7 @@ path_some input count drawn lt = ap (λ (b : Bool). cond b (input.path ∷ []) [
 pub path_none : (input : Input) (count : SourceCount) (drawn : ℕ) → count.points ≤ drawn → path_left input count drawn ≡ []
 path_none input count drawn le = ap (λ (b : Bool). cond b (input.path ∷ []) []) (le-ltb drawn count.points le)
 
--- where the reading begins at a record of an input, this and those behind it are left
+-- if the reading begins at a record of an input, this input and the later ones are left
 pub starts_paths : (inputs : List Input) (counts : List SourceCount) (drawn index number : ℕ) → length counts ≡ length inputs → total (take index counts) + number ≡ drawn → ((count : SourceCount) → slice_get counts index ≡ Some count → number < count.points)
     → paths_left inputs counts drawn ≡ paths_left (drop index inputs) (drop index counts) 0
 starts_paths [] counts drawn zero number each passed more = refl

@@ -17,7 +17,7 @@ empty_is : {X : Type 0} (xs : List X) → length xs ≡ 0 → xs ≡ []
 empty_is [] none = refl
 empty_is (x ∷ xs) none = absurd (omega (arith, none))
 
--- one point more
+-- one more point
 are_none : (files : List Held) (n : ℕ) → AreDrawn files n []
 are_none files n = λ k d lt. absurd (omega (arith, lt))
 
@@ -31,7 +31,7 @@ are_more files n points p are is = λ k d lt.
         let read : get_or (points ++ p ∷ []) k d ≡ p = ap (λ (i : ℕ). get_or (points ++ p ∷ []) i d) same ∙ get_or-append_seam points p [] d in
         subst (λ (q : Point). IsDrawn files (n - k) q) (sym read) (subst (λ (i : ℕ). IsDrawn files (n - i) p) (sym same) is)
 
--- a change that is kept, of the records that are left
+-- a change that is kept, among the records that are left
 pub kept_change : (files : List Held) (at left most : ℕ) → at ≡ left → most ≤ left → (source n : ℕ) (e : ReadError) → Some e ≡ Some (SourceChanged source n) → IfChanged (IsFirstChanged files at most) e → IsFirstChanged files left left source n
 kept_change files at left most same within source n e is change =
     let first : IsFirstChanged files at most source n = subst (IfChanged (IsFirstChanged files at most)) (one e (SourceChanged source n) is) change in
@@ -52,12 +52,12 @@ module _ {S : Type 0} (queue : Queue S) where
       let empty : sum_by (λ part. part.points) (drop queue.at queue.parts.items) ≡ 0 = ap (λ (l : List (Part S)). sum_by (λ part. part.points) l) nothing in
       omega (arith, empty)
 
-  -- where records are left the place is at a file
+  -- if records are left, the place is at a file
   pub at_file : 0 < records_left queue → queue.at < length queue.parts.items
   at_file some = ⊎_elim (λ (lt : queue.at < length queue.parts.items). lt) (λ (past : length queue.parts.items ≤ queue.at). absurd (omega (arith, some, none_left past))) (cases_lt queue.at (length queue.parts.items))
 
 module _ {S : Type 0} (whole left : S → Option (List ℕ)) (given : S → ℕ) (faults : S → ℕ) (first : Queue S) (before : List Point) where
-  -- so many records were drawn so far
+  -- k records were drawn so far
   pub record HasDrawn (queue : Queue S) (out : List Point) (k : ℕ) : Type 0 where
     pub stands : IsQueue whole left given queue
     pub files : held_of whole queue ≡ held_of whole first
@@ -126,7 +126,7 @@ module _ {S : Type 0} (whole left : S → Option (List ℕ)) (given : S → ℕ)
           zero_more : (i : ℕ) → i ≡ i + 0
           zero_more i = omega arith
 
-  -- the next record has changed, behind those that were drawn
+  -- the next record has changed, after those that were drawn
   pub first_changed : (queue : Queue S) (out : List Point) (k most : ℕ) → HasDrawn queue out k → k < most → (e : ReadError) → IfChanged (HasChanged (held_of whole queue) (records_left queue)) e → IfChanged (IsFirstChanged (held_of whole first) (records_left first) most) e
   first_changed queue out k most so_far within SourceFault changed = tt
   first_changed queue out k most so_far within Memory changed = tt

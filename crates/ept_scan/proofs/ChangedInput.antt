@@ -1,4 +1,4 @@
--- A change among the files of a reader is one of an input of the shelf.
+-- A change among the files of a reader is a change of an input of the shelf.
 use Rattle.std.proofs.Common.{◌≡◌, ◌⊎◌, ⊎_elim, inl, inr, ℕ, zero, suc, List, [], ◌∷◌, Option, Some, None, refl, sym, ◌∙◌, ap, subst}
 use Rattle.std.specs.Prelude.{All, IsSome, true, false, slice_get}
 use Rattle.std.proofs.lemmas.List.Elements.{All-head, All-tail}
@@ -30,7 +30,7 @@ whole None some = absurd (nothing some)
     nothing e = cc
 whole (Some file) some = (file, refl)
 
--- it differs in its header, or in the record that is told
+-- it differs in its header, or in the record with the reported number
 told : (reading : Reading) (points next n : ℕ) (file : List ℕ) (content : Option (List ℕ)) → content ≡ Some file → Differs reading points content next n → ((n ≡ 0) × HeaderDiffers reading points file) ⊎ RecordDiffers reading points file n
 told reading points next n file content is differs =
     ⊎_elim (λ (header : (n ≡ 0) × Tells (HeaderDiffers reading points) content). inl (header.0, subst (Tells (HeaderDiffers reading points)) is header.1))

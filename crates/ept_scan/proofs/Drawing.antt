@@ -26,7 +26,7 @@ use Rattle.ept_scan.specs.Places.{IsWithinFile}
 use Rattle.ept_scan.proofs.SoFar.{IsAtRecord, point_is, outside_is, early_is}
 use Rattle.ept_scan.proofs.Reaching.{split_product}
 
--- a refused header is told as a fault of the source, or as a change
+-- a refused header is reported as a fault of the source, or as a change
 pub header_changed : (reading : Reading) (points next : ℕ) (whole left : Option (List ℕ)) (e : ScanError) → left ≡ whole → points ≤ most_points → e ≢ scan.Memory → Tells (λ file. HeaderIsRefused reading file e) left → IsChange reading points next whole (change_of e reading.origin)
 header_changed reading points next whole left scan.SourceFault start few enough refused = tt
 header_changed reading points next whole left scan.Memory start few enough refused = absurd (enough refl)

@@ -32,7 +32,7 @@ pub fault_told : (before held : List ℕ) (old new : Option (List ℕ)) (expect 
 fault_told before held None new expect fault origin none keeps short end reads = tt
 fault_told before held (Some file) new expect fault origin none keeps short end reads = (refl, header_told before held (Some file) new expect (Err fault) none keeps short end reads)
 
--- what is ahead of the front is the file
+-- what is ahead of the first byte is the file
 pub front_kept : (before held : List ℕ) (old new : Option (List ℕ)) → before ≡ [] → Keeps (prepend_known before old) (prepend_known held new) → Keeps old (prepend_known held new)
 front_kept before held None new none keeps = tt
 front_kept before held (Some file) None none keeps = absurd keeps

@@ -1,4 +1,4 @@
--- The scan of some inputs and of those behind them is the scan of all.
+-- The scan of the first inputs and that of the later inputs are the scan of all.
 use Rattle.std.proofs.Common.{◌≡◌, ⊎_elim, ℕ, zero, suc, ◌+◌, ◌-◌, ◌<◌, ◌≤◌, List, [], ◌∷◌, ◌++◌, Some, None, length, take, drop, get_or, refl, sym, ◌∙◌, ap, subst, arith, length-append, length-drop}
 use Rattle.std.specs.Prelude.{slice_get}
 use Rattle.std.specs.List.{AllZip}
@@ -51,7 +51,7 @@ take_front m xs ys size = take-append-le m xs ys (omega (arith, size)) ∙ take_
 drop_front : (m : ℕ) (xs ys : List Point) → length xs ≡ m → drop m (xs ++ ys) ≡ ys
 drop_front m xs ys size = drop-append-le m xs ys (omega (arith, size)) ∙ ap (λ (l : List Point). l ++ ys) (drop_all m xs (omega (arith, size)))
 
--- an input of the first ones stands at the same place among all
+-- one of the first inputs is at the same place among all
 among_all : (first others : List Input) (i : ℕ) (input : Input) → slice_get first i ≡ Some input → slice_get (first ++ others) i ≡ Some input
 among_all first others i input is =
     let lt : i < length first = slice_get_within first i input is in
@@ -70,7 +70,7 @@ module _ (all : Files) (scale : ℕ) (bounds : Bounds) where
   }
 
   module _ (first others : List Input) where
-    -- the points of the first inputs, and of those behind them
+    -- the points of the first inputs, and of the later ones
     points_joined : (end : ℕ) (xs ys : List (List Point)) → ArePointsFrom all scale (Some bounds) first 0 (length first) xs → ArePointsFrom all scale (Some bounds) (first ++ others) (length first) end ys → ArePointsFrom all scale (Some bounds) (first ++ others) 0 end (xs ++ ys)
     points_joined end xs ys of_xs of_ys = record {
       count = omega (arith, of_xs.count, of_ys.count, length-append xs ys);

@@ -43,7 +43,7 @@ zip_length R [] (b ∷ ys) all = absurd all
 zip_length R (a ∷ xs) [] all = absurd all
 zip_length R (a ∷ xs) (b ∷ ys) all = ap (λ (n : ℕ). suc n) (zip_length R xs ys all.1)
 
--- the points of one list more
+-- the points of one more list
 pub in_order_push : (lists : List (List Point)) (points : List Point) → in_order (lists ++ points ∷ []) ≡ in_order lists ++ points
 in_order_push lists points = flat_map-append (λ (l : List Point). l) lists (points ∷ []) ∙ ap (λ (l : List Point). in_order lists ++ l) (append-nil points)
 
@@ -118,7 +118,7 @@ module _ (files : Option Files) (scale : ℕ) (limits : Option Bounds) (inputs :
         → Tells (λ all. ScanIsRefused all scale limits inputs from e) files
     found_refused counts e lt so_far refused = told_refused lt files so_far.lists e so_far.are refused
 
--- what was found of a path of a shelf, of the same path and shelf under other names
+-- what was found for a path of a shelf, for the same path and shelf under other names
 pub found_at : (limits : Option Bounds) (reading : Reading) (count : SourceCount) (there here : Option Files) (path name : List ℕ) → there ≡ here → path ≡ name → FindsCount limits (λ points. Tells (λ all. HasPoints all path reading points) there) count
     → FindsCount limits (λ points. Tells (λ all. HasPoints all name reading points) here) count
 found_at limits reading count there here path name same_files same_path found =

@@ -30,7 +30,7 @@ module _ (reading : Reading) (header : Header) (n : ℕ) (held : List ℕ) (fits
   reads_next it before (Some old) None are keeps = absurd keeps
   reads_next it before (Some old) (Some rest) are keeps = reads_known it (before ++ old) rest are keeps
 
--- the same, of the numbers and the lists that the code has
+-- the same for the numbers and the lists of the code
 pub read_is : (reading : Reading) (header : Header) (n : ℕ) (it : Found Point) (before held bytes after : List ℕ) (size : ℕ) (old new : Option (List ℕ)) → size ≡ header.length → size ≤ length held → bytes ≡ held → after ≡ drop size held
     → BytesAre reading header.format n (take size bytes) it → Keeps (prepend_known before old) (prepend_known held new) → ReadsNext reading header n (prepend_known before old) (prepend_known after new) it
 read_is reading header n it before held bytes after size old new size_is fits bytes_are after_is are keeps =
@@ -38,7 +38,7 @@ read_is reading header n it before held bytes after size old new size_is fits by
     subst (λ (l : List ℕ). ReadsNext reading header n (prepend_known before old) (prepend_known l new) it) (sym (after_is ∙ ap (λ (k : ℕ). drop k held) size_is))
     (reads_next reading header n held (subst (λ (k : ℕ). k ≤ length held) size_is fits) it before old new here keeps)
 
--- and of its place alone
+-- and for its place only
 pub place_is : (reading : Reading) (header : Header) (n : ℕ) (it : Found Place) (before held bytes after : List ℕ) (size : ℕ) (old new : Option (List ℕ)) → size ≡ header.length → size ≤ length held → bytes ≡ held → after ≡ drop size held
     → PlaceIs reading header.format n (take size bytes) it → Keeps (prepend_known before old) (prepend_known held new) → FindsPlace reading header n (prepend_known before old) (prepend_known after new) it
 place_is reading header n (found.At place) before held bytes after size old new size_is fits bytes_are after_is are keeps =

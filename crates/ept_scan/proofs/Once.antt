@@ -1,4 +1,4 @@
--- A file reads as points in one way, so it does not differ from what was found where it holds that.
+-- A file reads as points in one way. So it does not differ from what was found if it holds that.
 use Rattle.std.proofs.Common.{◌≡◌, ◌⊎◌, ⊎_elim, [], ◌∷◌, ℕ, ◌<◌, List, Option, Some, Ok, Err, Result, length, get_or, refl, sym, ◌∙◌, ap, subst, arith}
 use Rattle.ept_base.specs.Files.{Tells}
 use Rattle.ept_point.specs.declared.point.Point.{Point}

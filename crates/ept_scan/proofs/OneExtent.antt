@@ -39,7 +39,7 @@ extent_once points a b in_a in_b of_a of_b =
     let max : a.max ≡ b.max = three_alike a.max b.max in_a.max_is.three in_b.max_is.three (greatest_once (λ p. p.x) points _ _ _ _ of_a.x of_b.x) (greatest_once (λ p. p.y) points _ _ _ _ of_a.y of_b.y) (greatest_once (λ p. p.z) points _ _ _ _ of_a.z of_b.z) in
     λ i. record { min = min i; max = max i }
 
--- and so inputs have one box of bounds, be it given or found
+-- and so inputs have one box of bounds, whether it is given or found
 pub bounds_once : (limits : Option Bounds) (points : List Point) (a b : Bounds) → BoundsInRange a → BoundsInRange b → AreBounds limits points a → AreBounds limits points b → a ≡ b
 bounds_once None points a b in_a in_b of_a of_b = extent_once points a b in_a in_b of_a of_b
 bounds_once (Some limits) points a b in_a in_b of_a of_b = of_a ∙ sym of_b

@@ -84,7 +84,7 @@ module _ (first second : Reading) (factor : second.shift.factor ≡ first.shift.
       inr (records.0, has_again file records.0 records.1, records.2, records_again records.0 (records_of records.0 file) e records.3)) refused
 
 module _ (all : Files) (scale : ℕ) (limits : Option Bounds) (inputs : List Input) (from : ℕ) where
-  -- one input is refused for one cause
+  -- an input is refused for one cause
   one_place : (e f : ScanError) (is_e : IsFirstRefused all scale limits inputs from e) (is_f : IsFirstRefused all scale limits inputs from f) → is_f.at ≡ is_e.at → Blames e (Blames f (e ≡ f))
   one_place e f is_e is_f same =
       let one : is_f.input ≡ is_e.input = one_input inputs is_e.at is_f.input is_e.input (subst (λ (n : ℕ). slice_get inputs n ≡ Some is_f.input) same is_f.is_input.is) is_e.is_input.is in
@@ -95,7 +95,7 @@ module _ (all : Files) (scale : ℕ) (limits : Option Bounds) (inputs : List Inp
       one_cause is_e.reading is_e.refused.file e f is_e.refused.refused
       (refused_again is_f.reading is_e.reading (now.factor_is ∙ sym was.factor_is) (now.shift_is ∙ sym was.shift_is) (now.origin_is ∙ sym was.origin_is) (now.expect_is ∙ sym was.expect_is) (now.limits_are ∙ sym was.limits_are) is_e.refused.file f refused)
 
-  -- the first refused input is one
+  -- there is one first refused input
   first_once : (e f : ScanError) → IsFirstRefused all scale limits inputs from e → IsFirstRefused all scale limits inputs from f → Blames e (Blames f (e ≡ f))
   first_once e f is_e is_f =
       ⊎_elim (λ (earlier : is_e.at < is_f.at). from_blame e f (refused_among all scale limits inputs from is_f.at is_f.before e is_f.good is_e earlier))

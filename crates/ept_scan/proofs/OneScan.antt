@@ -24,7 +24,7 @@ use Rattle.ept_scan.specs.Scans.{in_order, Blames, IsReadingOf, AreBounds, HasPo
 use Rattle.ept_scan.proofs.Once.{some_point, one_header, not_err, one_point, not_truncated, not_outside}
 use Rattle.ept_scan.proofs.Rereading.{one_input, reread}
 
--- what is known of a refusal, where it is one of a file
+-- what is known of a refusal, if it is one of a file
 pub blames : (e : ScanError) (fact : Type 0) → fact → Blames e fact
 blames SourceFault fact is = tt
 blames Memory fact is = tt
@@ -78,7 +78,7 @@ file_or_refusal reading file xs e are refused =
     let same : records.0 ≡ are.header = one_header reading file records.0 are.header records.1 are.has_header in
     records_fine reading are.header (records_of are.header file) xs e are.are (subst (λ (h : Header). RecordsAreRefused reading h (records_of h file) e) same records.3)) refused
 
--- one header is refused for one cause
+-- a header is refused for one cause
 header_once_refused : (reading : Reading) (file : List ℕ) (e f : ScanError) → HeaderIsRefused reading file e → HeaderIsRefused reading file f → Blames e (Blames f (e ≡ f))
 header_once_refused reading file SourceFault f is_e is_f = tt
 header_once_refused reading file Memory f is_e is_f = tt
@@ -104,7 +104,7 @@ header_once_refused reading file (TooManyPoints source) (OutOfBounds other numbe
 header_once_refused reading file (TooManyPoints source) (BadLas other fault) is_e is_f = absurd (not_err is_e.1.0 fault (Ok is_e.1.0) (Err fault) refl refl (header_once (head_of file) reading.expect (Ok is_e.1.0) (Err fault) is_e.1.1 is_f.1))
 header_once_refused reading file (TooManyPoints source) (TooManyPoints other) is_e is_f = ap (λ (n : ℕ). TooManyPoints n) (is_e.0 ∙ sym is_f.0)
 
--- the first bad record is one, and bad in one way
+-- there is one first bad record, and it is bad in one way
 module _ (reading : Reading) (header : Header) (records : List ℕ) where
   one_number : (A B : ℕ → Type 0) (n m : ℕ) → IsFirstBad reading header records A n → IsFirstBad reading header records B m → ((k j : ℕ) (points : List Point) → AreFirstPoints reading header records j points → k < j → A k → ⊥)
       → ((k j : ℕ) (points : List Point) → AreFirstPoints reading header records j points → k < j → B k → ⊥) → n ≡ m

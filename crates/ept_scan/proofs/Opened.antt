@@ -26,7 +26,7 @@ use Rattle.ept_scan.proofs.Rereading.{part_holds}
 pub total_more : (counts : List SourceCount) (i : ℕ) (d : SourceCount) → i < length counts → total (take (i + 1) counts) ≡ total (take i counts) + (get_or counts i d).points
 total_more counts i d lt = ap total (take_more counts i d lt) ∙ sum_by_push (λ (c : SourceCount). c.points) (take i counts) (get_or counts i d)
 
--- the lists from one on and up to another, and one more
+-- the lists from one place up to another, and one more
 part_more : (lists : List (List Point)) (from i : ℕ) → from ≤ i → i < length lists → in_order (drop from (take (i + 1) lists)) ≡ in_order (drop from (take i lists)) ++ get_or lists i []
 part_more lists from i le lt =
     let size : from ≤ length (take i lists) = omega (arith, le, lt, length-take i lists) in
@@ -99,7 +99,7 @@ module _ {S : Type 0} (whole left : S → Option (List ℕ)) (given : S → ℕ)
         holds = skip_lists files so_far.holds;
       }
 
-    -- one with points is opened
+    -- an input with points is opened
     module _ (extent : Bounds) (p : Part S) (input : Input) (is_extent : (get_or counts i d).extent ≡ Some extent) (some : 0 < (get_or counts i d).points) (points : p.points ≡ (get_or counts i d).points) (is : slice_get kept.inputs i ≡ Some input)
         (reads : IsReadingOf kept.scale (Some extent) i input p.reading) (opens : Opens files input.path (whole p.source) (left p.source)) (fresh : faults p.source ≡ 0) (unread : given p.source ≡ 0) where
       more_first : (count : SourceCount) → slice_get counts from ≡ Some count → 0 < count.points → from < i + 1 → (part : Part S) × (others : List (Part S)) × (parts ++ p ∷ [] ≡ part ∷ others) × (part.points ≡ count.points)
@@ -177,6 +177,6 @@ module _ {S : Type 0} (whole left : S → Option (List ℕ)) (given : S → ℕ)
             let is = added.2 in
             subst (λ (l : List (Part S)). HasOpened whole left given faults files kept counts from (i + 1) l) (sym added.1) (opened_more extent added.0 is.input some (some_points (get_or counts i d) extent some sound) is.points_are is.is is.reads is.opens is.fresh is.unread)
 
--- no file of those that were opened has failed
+-- no file that was opened has failed
 pub none_failed : {S : Type 0} (faults : S → ℕ) (parts : List (Part S)) → All (λ part. faults part.source ≡ 0) parts → Any (λ part. faults part.source ≢ 0) parts → ⊥
 none_failed faults parts fresh any = any.4 (ap (λ (part : Part _). faults part.source) (sym any.3) ∙ fresh any.0 any.1 any.2)

@@ -1,4 +1,4 @@
--- The files of the second reading, of which one was read on.
+-- The files of the second reading, after one of them was read further.
 use Rattle.std.proofs.Common.{◌≡◌, ◌≢◌, ⊎_elim, ℕ, ◌+◌, ◌-◌, ◌<◌, ◌≤◌, List, [], ◌∷◌, ◌++◌, Option, Some, None, length, take, drop, get_or, set, refl, sym, ◌∙◌, ap, subst, arith, length-append}
 use Rattle.std.specs.Prelude.{All, Any, Contains, map, sum_by}
 use Rattle.std.specs.List.{AllZip}
@@ -30,7 +30,7 @@ held_sum whole [] = refl
 held_sum {S} whole (p ∷ parts) =
     omega (arith, sum_by-cons (λ (h : Held). h.points) (held whole p) (map (held whole) parts), sum_by-cons (λ (part : Part S). part.points) p parts, held_sum whole parts)
 
--- one file of a list was exchanged for one that holds the same
+-- one file of a list was replaced by a file that holds the same
 module _ {S : Type 0} (whole left : S → Option (List ℕ)) (given : S → ℕ) (parts : List (Part S)) (at : ℕ) (p y : Part S) (lt : at < length parts) (here : p ≡ get_or parts at p) where
   pub ahead_old : drop at parts ≡ p ∷ drop (at + 1) parts
   ahead_old = drop_more parts at p lt ∙ ap (λ (q : Part S). q ∷ drop (at + 1) parts) (sym here)
@@ -47,7 +47,7 @@ module _ {S : Type 0} (whole left : S → Option (List ℕ)) (given : S → ℕ)
       length-map_is : length (map (held whole) parts) ≡ length parts
       length-map_is = simp length-map
 
-  -- where the file is read further
+  -- the place from which the file is read further
   module _ (reading : y.reading ≡ p.reading) (points : y.points ≡ p.points) (same : whole y.source ≡ whole p.source) where
     pub held_is : held whole y ≡ held whole p
     held_is = λ i. record { reading = reading i; points = points i; file = same i }
@@ -73,7 +73,7 @@ module _ {S : Type 0} (whole left : S → Option (List ℕ)) (given : S → ℕ)
         All-set (λ part. Tells (λ file. TakesOfFile part.reading file 0 (given part.source)) (whole part.source)) parts at y
         (subst (λ (r : Reading). Tells (λ file. TakesOfFile r file 0 (given y.source)) (whole y.source)) (sym reading) (subst (λ (o : Option (List ℕ)). Tells (λ file. TakesOfFile p.reading file 0 (given y.source)) o) (sym same) taken)) all
 
-  -- files stand at their fronts behind their last records
+  -- files are rewound after their last records
   pub rewound_same : All (IsAtFront whole left) (take at parts) → All (IsAtFront whole left) (take at (set parts at y))
   rewound_same all = subst (All (IsAtFront whole left)) (sym (take-set parts at y)) all
 
@@ -127,7 +127,7 @@ module _ {S : Type 0} (whole left : S → Option (List ℕ)) (given : S → ℕ)
             zero_below : (a b : ℕ) → a ≤ b → b ≡ 0 → a ≡ 0
             zero_below a b le none = omega arith
 
-  -- where the reading stands
+  -- the place of the reading
   pub stands_old : (cursor : Cursor) (window : List ℕ) → StandsBefore whole left given (drop at parts) cursor window → IsCurrent whole left given p cursor window × All (IsUnread whole left given) (drop (at + 1) parts)
   stands_old cursor window stands = subst (λ (l : List (Part S)). StandsBefore whole left given l cursor window) ahead_old stands
 

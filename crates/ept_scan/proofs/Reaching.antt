@@ -5,7 +5,7 @@ use Rattle.ept_las.specs.declared.header.Header.{Header}
 use Rattle.ept_scan.specs.Reach.{HasLeftOf}
 use Rattle.ept_scan.proofs.SoFar.{IsAtRecord}
 
--- the records up to n, and those from n on
+-- the records before n, and those from n on
 pub split_product : (size n points : ℕ) → n ≤ points → size * (points - n) + size * n ≡ size * points
 split_product size n points fits =
     let parts : (points - n) + n ≡ points = omega (arith, fits) in

@@ -18,7 +18,7 @@ use Rattle.ept_scan.specs.Queue.{HoldsPoints}
 use Rattle.ept_scan.proofs.Spans.{extent_at}
 use Rattle.ept_scan.proofs.Sound.{all_within}
 
--- two shifts of one effect
+-- two shifts with the same effect
 pub point_shifted : (format : ℕ) (a b : Shift) (origin other n : ℕ) (bytes : List ℕ) (p : Point) → b.factor ≡ a.factor → b.by ≡ a.by → other ≡ origin → IsPointOf format a origin n bytes p → IsPointOf format b other n bytes p
 point_shifted format a b origin other n bytes p factor by same is = record {
   x_is = rw (factor, by) is.x_is;

@@ -33,7 +33,7 @@ module _ (all : Files) (scale : ℕ) (inputs : List Input) where
   allowed limits i points has = λ k d lt.
       subst (λ (o : Option Bounds). IsAllowed o (get_or points k d)) has.is_input.reading_is.limits_are (has.has.are.are.each k d (omega (arith, lt, has.has.are.are.count))).allowed
 
-  -- a file is read the same within other limits where its points lie within them
+  -- a file is read the same within other limits if its points lie within them
   reread_at : (limits other : Option Bounds) (i : ℕ) (points : List Point) → HasPointsAt all scale limits inputs i points → All (IsAllowed other) points → HasPointsAt all scale other inputs i points
   reread_at limits other i points has within =
       let old : Reading = has.reading in

@@ -21,11 +21,11 @@ use Rattle.ept_scan.specs.Records.{Takes, ReadsNext}
 use Rattle.ept_scan.specs.Refusals.{RecordsAreRefused}
 use Rattle.ept_scan.specs.Counts.{FindsExtent}
 
--- where the next record is, of the bytes from the first record on
+-- the place of the next record in the bytes from the first record on
 pub record IsPlace (header : Header) (records : List ℕ) (now : Option (List ℕ)) (n : ℕ) : Type 0 where
   pub ahead : now ≡ Some (drop (header.length * n) records)
 
--- the same where the source tells
+-- the same if the bytes of the source are visible
 abbrev pub IsAtRecord : Header → Option (List ℕ) → Option (List ℕ) → ℕ → Type 0
 IsAtRecord header None now n = ⊤
 IsAtRecord header (Some records) now n = IsPlace header records now n
@@ -36,7 +36,7 @@ at_first header (Some records) =
     let start : 0 ≡ header.length * 0 = omega arith in
     record { ahead = ap (λ (i : ℕ). Some (drop i records)) start }
 
--- a record that was taken is the one of this number, and the next place is behind it
+-- the record that was taken has this number, and the next place is after it
 module _ (reading : Reading) (header : Header) (records : List ℕ) (n : ℕ) (now new : Option (List ℕ)) (it : Found Point) (some : 0 < header.length) (place : IsPlace header records now n)
     (takes : Takes reading header n (drop (header.length * n) records) new it) where
   whole_is : IsWhole header records n

@@ -21,7 +21,7 @@ use Rattle.ept_config.specs.Ranges.{BoundsInRange}
 use Rattle.ept_scan.specs.Found.{limits_of, FindsLists}
 use Rattle.ept_scan.proofs.Listing.{zip_at, zip_length}
 
--- what holds of all items of two lists holds of those of each
+-- what holds of all items of two joined lists holds of all items of each
 all_left : {X : Type 0} (P : X → Type 0) (xs ys : List X) → All P (xs ++ ys) → All P xs
 all_left P xs ys all = λ k d lt. subst P (get_or_append_left xs ys d k lt) (all k d (omega (arith, lt, length-append xs ys)))
 
@@ -49,7 +49,7 @@ module _ (axis : Point → ℤ) (points : List Point) (low high least greatest :
       let any = is.greatest_is in
       subst (λ (v : ℤ). v ≤ℤ high) (ap axis any.3 ∙ any.4) (all any.0 any.1 any.2).1
 
--- the bounds have their minimum at most their maximum
+-- the minimum of the bounds is at most their maximum
 least_most : (axis : Point → ℤ) (points : List Point) (least greatest : ℤ) → IsSpanOf axis points least greatest → least ≤ℤ greatest
 least_most axis points least greatest is =
     let any = is.least_is in
@@ -113,7 +113,7 @@ limits_ordered (Some kept) given has in_range = has
 limits_ordered None None has in_range = tt
 limits_ordered None (Some given) has in_range = (in_range given refl).ordered
 
--- what was found of all inputs is the scan of the files that are told
+-- what was found of all inputs is the scan of the visible files
 pub scan_found : (files : Option Files) (scale : ℕ) (limits told : Option Bounds) (inputs : List Input) (from : ℕ) (counts given : List SourceCount) (bounds : Bounds) → limits ≡ told → given ≡ counts → (found : FindsLists files scale limits inputs from (length inputs) counts)
     → AreBounds limits (in_order found.lists) bounds → Tells (λ all. (points : List Point) × IsScan all scale told inputs from points (record { counts = given; bounds = bounds })) files
 scan_found None scale limits told inputs from counts given bounds same_limits same_counts found are = tt

@@ -28,7 +28,7 @@ plain_least a b r fits_a fits_b fits_r h = rw (to_z-of_z fits_r) (rw (to_z-of_z 
 pub plain_greatest : (a b r : ℤ) → FitsSigned w32 a → FitsSigned w32 b → FitsSigned w32 r → IsGreatest (to_z w32 (of_z w32 a)) (to_z w32 (of_z w32 b)) r → IsGreatest a b (to_z w32 (of_z w32 r))
 plain_greatest a b r fits_a fits_b fits_r h = rw (to_z-of_z fits_r) (rw (to_z-of_z fits_a, to_z-of_z fits_b) at h)
 
--- a point is within bounds where the coordinates of its place are
+-- a point is within bounds if the coordinates of its place are
 pub within_code : (b : Bounds) (p : Point) (place : Place) (x y z : Bool) → LiesAt place p → IsTrue x ↔ IsBetween (coordinate b.min 0) (coordinate b.max 0) place.x → IsTrue y ↔ IsBetween (coordinate b.min 1) (coordinate b.max 1) place.y → IsTrue z ↔ IsBetween (coordinate b.min 2) (coordinate b.max 2) place.z
     → IsTrue (x && y && z) ↔ IsWithin b p
 within_code b p place x y z lies in_x in_y in_z =
@@ -42,7 +42,7 @@ within_code b p place x y z lies in_x in_y in_z =
     moved : (least greatest : ℤ) {a b : ℤ} → a ≡ b → IsBetween least greatest a → IsBetween least greatest b
     moved least greatest same between = subst (IsBetween least greatest) same between
 
--- something holds of one of the points of either list
+-- what holds of a point of one list holds of a point of both lists joined
 any_left : {X : Type 0} (P : X → Type 0) (xs ys : List X) → Any P xs → Any P (xs ++ ys)
 any_left P xs ys any = (any.0, any.1, omega (arith, any.2, length-append xs ys), get_or_append_left xs ys any.1 any.0 any.2 ∙ any.3, any.4)
 

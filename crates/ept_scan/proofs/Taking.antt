@@ -20,12 +20,12 @@ use Rattle.ept_scan.specs.Scans.{IsReadingOf, HasPoints, HasPointsAt, ArePointsF
 use Rattle.ept_scan.proofs.Reaching.{split_product}
 use Rattle.ept_scan.specs.Reach.{end_of, IsReach, TakesOfFile, TakesOfPath, IsReachOf, ReadsUpTo, ReadsWithin}
 
--- no more than the header
+-- at most the header was given
 pub taken_head : (reading : Reading) (whole : Option (List ℕ)) (before now : ℕ) → now ≤ before + HEAD_LENGTH → Tells (λ file. TakesOfFile reading file before now) whole
 taken_head reading None before now given = tt
 taken_head reading (Some file) before now given = record { most = HEAD_LENGTH; reach = inl (omega arith); taken = given }
 
--- no more than the records
+-- at most the records were given
 pub taken_records : (reading : Reading) (header : Header) (some : 0 < header.points) (whole left : Option (List ℕ)) (before now : ℕ) → left ≡ whole → Tells (λ file. HasHeader reading file header) left → now ≤ before + max HEAD_LENGTH (end_of header) → Tells (λ file. TakesOfFile reading file before now) whole
 taken_records reading header some whole left before now start has given = subst (Tells (λ file. TakesOfFile reading file before now)) start (told left has)
   where
@@ -41,11 +41,11 @@ given_skipped head before first exit held offset more gained short given = omega
 pub given_scanned : (head before first second exit held rest offset more : ℕ) → first ≤ before + held → held ≤ head → second + held ≤ first + rest + offset → rest ≤ held - offset → exit ≤ second + (more - rest) → exit ≤ before + max head (offset + more)
 given_scanned head before first second exit held rest offset more gained short skipped less given = omega arith
 
--- no byte
+-- no byte was given
 pub taken_none : (reading : Reading) (whole : Option (List ℕ)) (now : ℕ) → now ≡ 0 → Tells (λ file. TakesOfFile reading file 0 now) whole
 taken_none reading whole now none = taken_head reading whole 0 now (omega (arith, none))
 
--- before a record of a file, and behind it
+-- before a record of a file, and after it
 pub given_up : (header : Header) (n given held now : ℕ) → n < header.points → given ≤ held + (header.offset + header.length * n) → held + (header.offset + header.length * n) ≤ max HEAD_LENGTH (end_of header) → now ≤ given + (header.length * (header.points - n) - held) → now ≤ 0 + max HEAD_LENGTH (end_of header)
 given_up header n given held now within before reach more =
     let split : header.length * (header.points - n) + header.length * n ≡ header.length * header.points = split_product header.length n header.points (omega (arith, within)) in
@@ -61,7 +61,7 @@ given_start header n k before held mid now within is none gained short more =
     let split : header.length * (header.points - n) + header.length * n ≡ header.length * header.points = split_product header.length n header.points (omega (arith, within)) in
     omega (arith, is, none, gained, short, more, split)
 
--- what was given of a path of a shelf, of the same path and shelf under other names
+-- what was given for a path of a shelf, for the same path and shelf under other names
 pub path_at : (reading : Reading) (there here : Option Files) (path name : List ℕ) (before now : ℕ) → there ≡ here → path ≡ name → Tells (λ all. TakesOfPath all path reading before now) there → Tells (λ all. TakesOfPath all name reading before now) here
 path_at reading there here path name before now same_files same_path taken =
     subst (λ (l : List ℕ). Tells (λ all. TakesOfPath all l reading before now) here) same_path (subst (λ (o : Option Files). Tells (λ all. TakesOfPath all path reading before now) o) same_files taken)
@@ -122,7 +122,7 @@ module _ (files : Option Files) (scale : ℕ) (limits : Option Bounds) (inputs :
             ⊎_elim (λ (none : later ≤ now). push all has.file 0 has.content (inl (omega arith)) (omega arith) so_far)
             (λ (some : (file : List ℕ) × (all input.path ≡ Some file) × TakesOfFile reading file now later). push all some.0 some.2.most some.1 some.2.reach some.2.taken so_far) taken
 
-    -- an input behind which none was begun
+    -- an input after which none was begun
     pub reads_last : (counts : List SourceCount) → i < length inputs → FindsLists files scale limits inputs from i counts → Tells (λ all. ReadsUpTo all scale limits inputs from i before now) files → Tells (λ all. TakesOfPath all input.path reading now later) files
         → Tells (λ all. ReadsWithin all scale limits inputs from before later) files
     reads_last counts lt found so_far taken = told files found.are so_far taken

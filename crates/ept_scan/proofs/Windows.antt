@@ -15,12 +15,12 @@ let_go buffer start end count order fits =
     sym (ap (λ (n : ℕ). drop count (take n (drop start buffer))) (sym parts) ∙ drop-take count (end - (start + count)) (drop start buffer)
     ∙ ap (λ (l : List ℕ). take (end - (start + count)) l) (drop-drop count start buffer))
 
--- the bytes that were kept stand at the front
+-- the bytes that were kept are at the start
 moved : (buffer : List ℕ) (start end : ℕ) → start ≤ end → end ≤ length buffer → take (end - start) (copy_within buffer start end 0) ≡ take (end - start) (drop start buffer)
 moved buffer start end order fits =
     take_at (take (end - start) (drop start buffer)) (drop (0 + (end - start)) buffer) (end - start) (omega (arith, length-take (end - start) (drop start buffer), length-drop start buffer))
 
--- more was read behind the bytes that were kept
+-- more bytes were read after those that were kept
 pub read_on : (buffer : List ℕ) (start end most count : ℕ) (copied into : List ℕ) (old new : Option (List ℕ)) → start ≤ end → end ≤ length buffer → copied ≡ copy_within buffer start end 0
     → end - start < most → most ≤ length copied → ReadsFull old new count into
     → Keeps (prepend_known (take (end - start) (drop start buffer)) old) (prepend_known (take (end - start + count) (put_mid (end - start) (most - (end - start)) copied into)) new)

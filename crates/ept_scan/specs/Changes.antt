@@ -25,41 +25,43 @@ HeaderDiffers reading points file = ((fault : LasError)
     × HeaderReadsAs (head_of file) reading.expect (Err fault))
     ⊎ ((header : Header) × HasHeader reading file header × (header.points ≢ points))
 
--- record n, one of those stated, ends early or does not lie where points may lie
+-- record n is one of those stated, and it ends early or its point does not lie where points may lie
 abbrev pub RecordDiffers : Reading → ℕ → List ℕ → ℕ → Type 0
 RecordDiffers reading points file n =
     (n < points) × (header : Header) × StatesPoints reading points file header
     × (IsTruncated header (records_of header file) n
     ⊎ IsOutsideAt reading header (records_of header file) n)
 
--- where it is told: the file differs in its header, which is told by the number 0, or in the record that is next, which is told by its own number
+-- If the file is visible, it differs at number n. Either n is 0 and its header differs, or n is the next record and
+-- this record differs.
 abbrev pub Differs : Reading → ℕ → Option (List ℕ) → ℕ → ℕ → Type 0
 Differs reading points file next n =
     ((n ≡ 0) × Tells (HeaderDiffers reading points) file)
     ⊎ ((n ≡ next) × Tells (λ bytes. RecordDiffers reading points bytes next) file)
 
--- what a refusal says of a source and a number where it tells a change; a fault of the device and want of memory say nothing
+-- What a refusal says of a source and a number if it reports a change. A fault of the device says nothing of them, nor
+-- does running out of memory.
 abbrev pub IfChanged : (ℕ → ℕ → Type 0) → ReadError → Type 0
 IfChanged Fact SourceFault = ⊤
 IfChanged Fact Memory = ⊤
 IfChanged Fact (SourceChanged source n) = Fact source n
 
--- why a file of which this record is next is refused as changed
+-- why a file with this next record is refused as changed
 abbrev pub IsChange : Reading → ℕ → ℕ → Option (List ℕ) → ReadError → Type 0
 IsChange reading points next file =
     IfChanged (λ source n. (source ≡ reading.origin) × Differs reading points file next n)
 
--- record n of a file that states so many points has this point
+-- record n of a file that states this number of points has this point
 abbrev pub HasRecord : Reading → ℕ → List ℕ → ℕ → Point → Type 0
 HasRecord reading points file n p = (header : Header) × StatesPoints reading points file header
     × IsPointAt reading header (records_of header file) n p
 
--- what is answered where a source cannot be had
+-- what is returned if a source cannot be opened
 abbrev pub read_error_of : GetError → ReadError
 read_error_of get.Failed = SourceFault
 read_error_of get.Memory = Memory
 
--- how a refused header is told
+-- the error for a refused header
 abbrev pub change_of : ScanError → ℕ → ReadError
 change_of scan.SourceFault origin = SourceFault
 change_of scan.Memory origin = SourceChanged origin 0

@@ -11,7 +11,8 @@ use Rattle.ept_config.specs.Counts.{IsCountOf, most_points}
 use Rattle.ept_scan.specs.Extents.{IsAllowed}
 use Rattle.ept_scan.specs.LasFile.{AreFirstPoints}
 
--- so many records were found to have an extent: that of their points, which lie where points may lie
+-- The extent of the records that the header states was found. It is the extent of their points, which lie where points
+-- may lie.
 pub record FindsExtent (reading : Reading) (header : Header) (records : Option (List ℕ))
     (extent : Option Bounds) : Type 0 where
   pub points : List Point
@@ -20,7 +21,7 @@ pub record FindsExtent (reading : Reading) (header : Header) (records : Option (
   pub has_extent : HasExtent points extent
   pub are : Tells (λ bytes. AreFirstPoints reading header bytes header.points points) records
 
--- The number and the extent of points that were found, which lie where points may lie, and of which something is known.
+-- The number and the extent of points that were found. They lie where points may lie, and `Are` is known of them.
 pub record FindsCount (limits : Option Bounds) (Are : List Point → Type 0)
     (count : SourceCount) : Type 0 where
   pub points : List Point

@@ -1,10 +1,10 @@
--- Where points may lie, and the lesser and the greater of two coordinates.
+-- The places where points may lie, and the lesser and the greater of two coordinates.
 use Rattle.std.specs.Prelude.{◌≡◌, ◌⊎◌, ℤ, ◌≤ℤ◌, Option, Some, None, ⊤}
 use Rattle.ept_point.specs.declared.point.Point.{Point}
 use Rattle.ept_space.specs.declared.bounds.Bounds.{Bounds}
 use Rattle.ept_config.specs.Extents.{IsWithin}
 
--- within bounds, where there are any
+-- within the bounds, if there are any
 abbrev pub IsAllowed : Option Bounds → Point → Type 0
 IsAllowed None p = ⊤
 IsAllowed (Some bounds) p = IsWithin bounds p

@@ -1,4 +1,4 @@
--- What a scan of several inputs finds, whatever the sources tell.
+-- What a scan of several inputs finds, whatever the sources make visible.
 use Rattle.std.specs.Prelude.{◌≡◌, ℕ, ◌+◌, ◌≤◌, List, Option, Some, None, length, All}
 use Rattle.std.specs.List.{AllZip}
 use Rattle.ept_base.specs.Files.{Files, Tells}
@@ -10,12 +10,12 @@ use Rattle.ept_scan.specs.Extents.{IsAllowed}
 use Rattle.ept_config.specs.Counts.{IsCountOf, most_points}
 use Rattle.ept_scan.specs.Scans.{ArePointsFrom}
 
--- where points may lie: within the bounds that were kept, else within those that are given
+-- where points may lie: within the bounds that were kept, or if there are none within the given ones
 abbrev pub limits_of : Option Bounds → Option Bounds → Option Bounds
 limits_of None given = given
 limits_of (Some kept) given = Some kept
 
--- The points that were found in the inputs from one on and up to another, a list for each, with their counts.
+-- The points that were found in the inputs from one up to another, a list for each, with their counts.
 pub record FindsLists (files : Option Files) (scale : ℕ) (limits : Option Bounds)
     (inputs : List Input) (from end : ℕ) (counts : List SourceCount) : Type 0 where
   pub lists : List (List Point)

@@ -16,7 +16,7 @@ longest_header = 375
 abbrev pub head_of : List ℕ → List ℕ
 head_of file = take longest_header file
 
--- the file has a header without a fault, and it says this
+-- the file has this header, which has no fault
 abbrev pub HasHeader : Reading → List ℕ → Header → Type 0
 HasHeader reading file header = HeaderReadsAs (head_of file) reading.expect (Ok header)
 
@@ -28,11 +28,11 @@ records_of header file = drop header.offset file
 abbrev pub record_at : Header → List ℕ → ℕ → List ℕ
 record_at header records n = take header.length (drop (header.length * n) records)
 
--- its last byte is within the file
+-- the last byte of record n is within the file
 abbrev pub IsWhole : Header → List ℕ → ℕ → Type 0
 IsWhole header records n = header.length * (n + 1) ≤ length records
 
--- it is past the file's end
+-- the last byte of record n is past the file's end
 abbrev pub IsTruncated : Header → List ℕ → ℕ → Type 0
 IsTruncated header records n = length records < header.length * (n + 1)
 
@@ -43,7 +43,7 @@ pub record IsPointAt (reading : Reading) (header : Header) (records : List ℕ) 
   pub point : IsPointOf header.format reading.shift reading.origin n (record_at header records n) p
   pub allowed : IsAllowed reading.limits p
 
--- the bytes of a record have a place that no 32 bits hold, or one outside the limits
+-- the bytes of a record have a place that does not fit into 32 bits, or one outside the limits
 abbrev pub IsOutside : Reading → ℕ → ℕ → List ℕ → Type 0
 IsOutside reading format n bytes =
     IsOutOfUnits reading.shift bytes

@@ -1,4 +1,4 @@
--- The inputs are a scan in one way, or are refused in one way. Each statement stands on the contract of a function of `laws`.
+-- Inputs are scanned in one way, or are refused in one way. Each statement is a clause of a function of `laws`.
 use Rattle.std.specs.Prelude.{◌≡◌, ℕ, List, Option}
 use Rattle.ept_base.specs.Files.{Files}
 use Rattle.ept_point.specs.declared.point.Point.{Point}
@@ -65,18 +65,18 @@ ScanLiesWithin = (all : Files) (scale : ℕ) (limits : Option Bounds) (inputs : 
     (points : List Point) (done : ScanDone) → IsScan all scale limits inputs from points done
     → All (IsWithin done.bounds) points
 
--- no two places of a list have points with one id
+-- no two items of a list have the same id
 abbrev pub HaveDistinctIds : List Point → Type 0
 HaveDistinctIds points = (i j : ℕ) (d : Point) → i < length points → j < length points
     → id (slice_index_or points i d) ≡ id (slice_index_or points j d) → i ≡ j
 
--- what was scanned stands in the order of ids: by the place of the input, then by the record
+-- the points that were scanned are in the order of their ids: by the place of the input, then by the record
 abbrev pub ScanAscends : Type 0
 ScanAscends = (all : Files) (scale : ℕ) (limits : Option Bounds) (inputs : List Input) (from : ℕ)
     (points : List Point) (done : ScanDone) → IsScan all scale limits inputs from points done
     → IsAscending points
 
--- no two points that were scanned have one id
+-- no two points that were scanned have the same id
 abbrev pub ScanHasDistinctIds : Type 0
 ScanHasDistinctIds = (all : Files) (scale : ℕ) (limits : Option Bounds) (inputs : List Input)
     (from : ℕ) (points : List Point) (done : ScanDone)
@@ -88,20 +88,22 @@ ScanComesFromInputs = (all : Files) (scale : ℕ) (limits : Option Bounds) (inpu
     (from : ℕ) (points : List Point) (done : ScanDone)
     → IsScan all scale limits inputs from points done → All (λ p. p.origin < length inputs) points
 
--- where no input has more points than that, each point has a number below it
+-- if no input has more than `most` points, each point has a number below `most`
 abbrev pub ScanIsNumbered : Type 0
 ScanIsNumbered = (all : Files) (scale : ℕ) (limits : Option Bounds) (inputs : List Input)
     (from : ℕ) (points : List Point) (done : ScanDone) (most : ℕ)
     → IsScan all scale limits inputs from points done → All (λ count. count.points ≤ most) done.counts
     → All (λ p. p.number < most) points
 
--- of files that a shelf has under the paths of the inputs, and that are read as they were counted, a change is one of these inputs
+-- Each file has the bytes of its input on a shelf, and is read as that was counted. Then the first change is one of
+-- these inputs.
 abbrev pub ChangeIsOfInput : Type 0
 ChangeIsOfInput = (all : Files) (kept : Kept) (counts : List SourceCount) (files : List Held)
     (left most source n : ℕ) → All (IsFileOf kept counts) files → All (HasBytesOf all kept.inputs) files
     → IsFirstChanged files left most source n → InputDiffers all kept counts source n
 
--- the first inputs and those behind them, scanned within the same bounds, are the scan of all: the points and the counts of both, in order
+-- The first inputs and the later ones, scanned within the same bounds, are the scan of all inputs. It has the points
+-- and the counts of both, in order.
 abbrev pub ScansJoin : Type 0
 ScansJoin = (all : Files) (scale : ℕ) (bounds : Bounds) (first others : List Input)
     (xs ys : List Point) (front back : ScanDone) → IsScan all scale (Some bounds) first 0 xs front
@@ -109,7 +111,8 @@ ScansJoin = (all : Files) (scale : ℕ) (bounds : Bounds) (first others : List I
     → IsScan all scale (Some bounds) (first ++ others) 0 (xs ++ ys)
     (record { counts = front.counts ++ back.counts; bounds = bounds })
 
--- of a scan of all inputs within bounds, the first inputs have the first counts, and as many of the first points as these count
+-- In a scan of all inputs within bounds, the first inputs have the first counts. They have the first points, in the
+-- total number of these counts.
 abbrev pub ScanFront : Type 0
 ScanFront = (all : Files) (scale : ℕ) (bounds : Bounds) (first others : List Input)
     (points : List Point) (done : ScanDone)
@@ -117,7 +120,7 @@ ScanFront = (all : Files) (scale : ℕ) (bounds : Bounds) (first others : List I
     → IsScan all scale (Some bounds) first 0 (take (total (take (length first) done.counts)) points)
     (record { counts = take (length first) done.counts; bounds = bounds })
 
--- and those behind them have the other counts and points
+-- and the later inputs have the other counts and points
 abbrev pub ScanBack : Type 0
 ScanBack = (all : Files) (scale : ℕ) (bounds : Bounds) (first others : List Input)
     (points : List Point) (done : ScanDone)
@@ -126,7 +129,7 @@ ScanBack = (all : Files) (scale : ℕ) (bounds : Bounds) (first others : List In
     (drop (total (take (length first) done.counts)) points)
     (record { counts = drop (length first) done.counts; bounds = bounds })
 
--- where the first inputs were scanned, the cause for which those behind them are refused is that of all
+-- after a scan of the first inputs, the cause for which the later inputs are refused is one for which all are refused
 abbrev pub RefusedBehind : Type 0
 RefusedBehind = (all : Files) (scale : ℕ) (bounds : Bounds) (first others : List Input)
     (points : List Point) (done : ScanDone) (e : ScanError)

@@ -1,4 +1,4 @@
--- Where the second reading begins, and which files it has.
+-- The place at which the second reading begins, and the files that it has.
 use Rattle.std.specs.Prelude.{◌≡◌, ◌≢◌, ◌⊎◌, ℕ, ◌+◌, ◌<◌, ◌≤◌, List, [], ◌∷◌, ◌++◌, Option, Some, None, length, take, drop, map, sum_by, IsSome, slice_get, All, Any}
 use Rattle.std.specs.List.{AllZip}
 use Rattle.ept_base.specs.Files.{Files, Tells}
@@ -20,25 +20,25 @@ abbrev pub IsKeptScan : Files → Kept → List SourceCount → List Point → T
 IsKeptScan all kept counts points = IsScan all kept.scale (Some kept.bounds) kept.inputs 0 points
     (record { counts = counts; bounds = kept.bounds })
 
--- behind so many records comes this record of this input; behind the last record there is no input
+-- After the first `drawn` records comes record `number` of input `index`. After the last record there is no input.
 pub record StartsAt (counts : List SourceCount) (drawn index number : ℕ) : Type 0 where
   pub within : index ≤ length counts
   pub passed : total (take index counts) + number ≡ drawn
   pub more : (count : SourceCount) → slice_get counts index ≡ Some count → number < count.points
   pub end : length counts ≤ index → number ≡ 0
 
--- some source has failed
+-- a source has failed
 abbrev pub HasFailed : {S : Type 0} → (S → ℕ) → List (Part S) → Type 0
 HasFailed faults parts = Any (λ part. faults part.source ≢ 0) parts
 
--- these files hold the points of these lists, those without points left out
+-- These files hold the points of these lists. The lists without points are left out.
 pub record AreHeld {S : Type 0} (whole : S → Option (List ℕ)) (parts : List (Part S))
     (lists : List (List Point)) : Type 0 where
   pub mine : List (List Point)
   pub hold : AllZip HoldsPoints (map (held whole) parts) mine
   pub same : in_order mine ≡ in_order lists
 
--- input i was opened: it is at its front, and its points are to lie within this extent
+-- input i was opened: nothing of it was read, and its points have to lie within this extent
 pub record IsOpened {S : Type 0} (whole left : S → Option (List ℕ)) (given : S → ℕ) (faults : S → ℕ)
     (files : Option Files) (kept : Kept) (i points : ℕ) (extent : Bounds) (part : Part S) : Type 0 where
   pub input : Input
@@ -49,14 +49,14 @@ pub record IsOpened {S : Type 0} (whole left : S → Option (List ℕ)) (given :
   pub fresh : faults part.source ≡ 0
   pub unread : given part.source ≡ 0
 
--- an input with an extent is opened, and one without has no points and is left out
+-- an input with an extent is opened; an input without one has no points and is left out
 abbrev pub AddsInput : {S : Type 0} (whole left : S → Option (List ℕ)) (given : S → ℕ) (faults : S → ℕ)
     → Option Files → Kept → ℕ → ℕ → Option Bounds → List (Part S) → List (Part S) → Type 0
 AddsInput whole left given faults files kept i points None old new = new ≡ old
 AddsInput {S} whole left given faults files kept i points (Some extent) old new = (part : Part S)
     × (new ≡ old ++ part ∷ []) × IsOpened whole left given faults files kept i points extent part
 
--- a file is an input of this place, read within the extent and with the number of points that were found of it
+-- The file is an input of this place. It is read within the extent and with the number of points that were found in it.
 pub record IsFileOf (kept : Kept) (counts : List SourceCount) (file : Held) : Type 0 where
   pub input : Input
   pub is_input : slice_get kept.inputs file.reading.origin ≡ Some input
@@ -65,14 +65,14 @@ pub record IsFileOf (kept : Kept) (counts : List SourceCount) (file : Held) : Ty
   pub reads : IsReadingOf kept.scale count.extent file.reading.origin input file.reading
   pub points_are : file.points ≡ count.points
 
--- a file has the bytes that a shelf has under the path of its input
+-- the file has the bytes that a shelf has under the path of its input
 pub record HasBytesOf (all : Files) (inputs : List Input) (file : Held) : Type 0 where
   pub input : Input
   pub is_input : slice_get inputs file.reading.origin ≡ Some input
   pub there : IsSome file.file
   pub bytes : file.file ≡ all input.path
 
--- Input `source` of a shelf is not as it was counted: in its header, which is told by the number 0, or in this record.
+-- Input `source` of a shelf is not as it was counted. Either n is 0 and its header differs, or record n differs.
 pub record InputDiffers (all : Files) (kept : Kept) (counts : List SourceCount) (source n : ℕ) : Type 0 where
   pub input : Input
   pub is_input : slice_get kept.inputs source ≡ Some input
@@ -85,7 +85,7 @@ pub record InputDiffers (all : Files) (kept : Kept) (counts : List SourceCount) 
   pub differs : ((n ≡ 0) × HeaderDiffers reading count.points file)
       ⊎ RecordDiffers reading count.points file n
 
--- the inputs from one on and up to another that have points were opened
+-- the inputs with points from one up to another were opened
 pub record HasOpened {S : Type 0} (whole left : S → Option (List ℕ)) (given : S → ℕ) (faults : S → ℕ)
     (files : Option Files) (kept : Kept) (counts : List SourceCount) (from end : ℕ)
     (parts : List (Part S)) : Type 0 where

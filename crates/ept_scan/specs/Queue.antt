@@ -1,4 +1,4 @@
--- The files of the second reading: what each holds, where it stands, and which points are left.
+-- The files of the second reading: what each holds, where the reading is, and which points are left.
 use Rattle.std.specs.Prelude.{◌≡◌, ◌≢◌, ℕ, ◌+◌, ◌-◌, ◌<◌, ◌≤◌, List, [], ◌∷◌, Option, Some, length, take, drop, map, sum_by, slice_get, slice_index_or, All, Any, Contains}
 use Rattle.std.specs.List.{AllZip}
 use Rattle.ept_base.specs.Files.{Tells}
@@ -15,13 +15,13 @@ use Rattle.ept_scan.specs.Changes.{Differs, HasRecord}
 use Rattle.ept_scan.specs.Places.{StandsAt, GivenAt}
 use Rattle.ept_scan.specs.Reach.{ReadsNoFurther, TakesOfFile}
 
--- a file of which records were left: how it is read, how many points were found, and its bytes where they are told
+-- a file of which records were left: how it is read, how many points were found, and its bytes if they are visible
 pub record Held : Type 0 where
   pub reading : Reading
   pub points : ℕ
   pub file : Option (List ℕ)
 
--- the bytes are told, and read as the points that were found
+-- the bytes are visible, and read as the points that were found
 pub record HoldsPoints (held : Held) (points : List Point) : Type 0 where
   pub file : List ℕ
   pub told : held.file ≡ Some file
@@ -34,7 +34,7 @@ pub record AreRest (ahead : List Held) (passed : ℕ) (points : List Point) : Ty
   pub hold : AllZip HoldsPoints ahead lists
   pub rest : points ≡ drop passed (in_order lists)
 
--- the point is of one of these files, and lies where its points may lie
+-- the point is of one of these files, and lies within the extent of its points
 pub record LiesIn (files : List Held) (p : Point) : Type 0 where
   pub held : Held
   pub among : Contains files held
@@ -43,14 +43,14 @@ pub record LiesIn (files : List Held) (p : Point) : Type 0 where
   pub kept : held.reading.limits ≡ Some extent
   pub within : IsWithin extent p
 
--- Of these files so many records are left from this one on: the one of this number in this file.
+-- From record `number` of this file on, `left` records of these files are left.
 pub record IsNext (files : List Held) (left : ℕ) (file : Held) (number : ℕ) : Type 0 where
   pub index : ℕ
   pub is : slice_get files index ≡ Some file
   pub more : number < file.points
   pub left_is : number + left ≡ sum_by (λ held. held.points) (drop index files)
 
--- the point carries the place and the number of the record from which on so many are left, and is its point
+-- The point is that of the record from which on `left` records are left. It carries the record's file and number.
 pub record IsDrawn (files : List Held) (left : ℕ) (p : Point) : Type 0 where
   pub held : Held
   pub next : IsNext files left held p.number
@@ -62,7 +62,8 @@ abbrev pub AreDrawn : List Held → ℕ → List Point → Type 0
 AreDrawn files left points = (k : ℕ) (d : Point) → k < length points
     → IsDrawn files (left - k) (slice_index_or points k d)
 
--- the file of the record from which on so many are left differs from what was found, in its header or in this record
+-- The file of the record from which on `left` records are left differs from what was found. It differs in its header,
+-- or in this record.
 pub record HasChanged (files : List Held) (left source n : ℕ) : Type 0 where
   pub held : Held
   pub number : ℕ
@@ -70,7 +71,7 @@ pub record HasChanged (files : List Held) (left source n : ℕ) : Type 0 where
   pub origin : source ≡ held.reading.origin
   pub differs : Differs held.reading held.points held.file number n
 
--- of the next records, at most so many, the first that differs: those before it have points
+-- the first record that differs among the next `most` records: those before it have points
 pub record IsFirstChanged (files : List Held) (left most source n : ℕ) : Type 0 where
   pub before : List Point
   pub few : length before < most
@@ -92,20 +93,20 @@ module _ {S : Type 0} (whole : S → Option (List ℕ)) where
 abbrev pub records_left : {S : Type 0} → Queue S → ℕ
 records_left queue = sum_by (λ part. part.points) (drop queue.at queue.parts.items) - queue.cursor.number
 
--- some source has failed
+-- a source has failed
 abbrev pub HasFault : {S : Type 0} → (S → ℕ) → Queue S → Type 0
 HasFault faults queue = Any (λ part. faults part.source ≢ 0) queue.parts.items
 
--- a file has an extent within which its points are to lie
+-- a file has an extent within which its points have to lie
 abbrev pub IsLimited : {S : Type 0} → Part S → Type 0
 IsLimited part = (extent : Bounds) × (part.reading.limits ≡ Some extent)
 
 module _ {S : Type 0} (whole left : S → Option (List ℕ)) where
-  -- a file stands at its front
+  -- the file is at its first byte
   abbrev pub IsAtFront : Part S → Type 0
   IsAtFront part = left part.source ≡ whole part.source
 
-  -- each file before the place was rewound behind its last record
+  -- each file before the place was rewound after its last record
   abbrev pub AreRewound : Queue S → Type 0
   AreRewound queue = All IsAtFront (take queue.at queue.parts.items)
 
@@ -114,7 +115,7 @@ module _ {S : Type 0} (whole left : S → Option (List ℕ)) where
   AreNear queue = All (λ part. ReadsNoFurther part.reading (whole part.source)
       (left part.source)) queue.parts.items
 
--- each file for itself has given no more bytes than may be read of it
+-- each file has given at most the bytes that may be read of it
 abbrev pub GiveNoMore : {S : Type 0} → (S → Option (List ℕ)) → (S → ℕ) → Queue S → Type 0
 GiveNoMore whole given queue = All (λ part. Tells (λ file. TakesOfFile part.reading file 0
     (given part.source)) (whole part.source)) queue.parts.items
@@ -137,7 +138,7 @@ module _ {S : Type 0} (whole left : S → Option (List ℕ)) (given : S → ℕ)
   StandsBefore [] cursor window = cursor.number ≡ 0
   StandsBefore (part ∷ parts) cursor window = IsCurrent part cursor window × All IsUnread parts
 
-  -- the files behind the place are not begun, and the one at the place is read to the record that is next
+  -- the files after the place are not begun, and the file at the place is read up to the next record
   pub record IsQueue (queue : Queue S) : Type 0 where
     pub within : queue.at ≤ length queue.parts.items
     pub stands : StandsBefore (drop queue.at queue.parts.items) queue.cursor queue.window

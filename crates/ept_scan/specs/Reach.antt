@@ -9,56 +9,58 @@ use Rattle.ept_scan.specs.declared.reading.Reading.{Reading}
 use Rattle.ept_scan.specs.LasFile.{longest_header, HasHeader}
 use Rattle.ept_scan.specs.Scans.{IsInput, HasPointsAt}
 
--- Of what was left at most so many bytes were read, where the source tells.
+-- At most `most` bytes of what was left were read, if the source makes them visible.
 abbrev pub HasLeftOf : Option (List ℕ) → Option (List ℕ) → ℕ → Type 0
 HasLeftOf None new most = ⊤
 HasLeftOf (Some old) None most = ⊤
 HasLeftOf (Some old) (Some new) most = length old ≤ length new + most
 
--- so many of the known bytes were passed over
+-- `count` of the known bytes were passed over
 abbrev pub Skips : Option (List ℕ) → Option (List ℕ) → ℕ → Type 0
 Skips None new count = ⊤
 Skips (Some old) None count = ⊥
 Skips (Some old) (Some new) count = new ≡ drop count old
 
--- where the last record that a header states ends, counted from the front of the file
+-- where the last record that a header states ends, counted from the first byte of the file
 abbrev pub end_of : Header → ℕ
 end_of header = header.offset + header.length * header.points
 
--- No byte was read that lies both past those that may belong to a header and past the last record; where no header is accepted, or it states no record, none past the first.
+-- At most the bytes that may belong to a header were read, or those up to the end of the last record. The latter were
+-- read only if the header is accepted and states a record.
 abbrev pub IsWithinRecords : Reading → List ℕ → List ℕ → Type 0
 IsWithinRecords reading file left =
     (length file ≤ length left + longest_header)
     ⊎ ((header : Header) × HasHeader reading file header × (0 < header.points)
     × (length file ≤ length left + end_of header))
 
--- the same of a source, where it tells
+-- the same of a source, if it makes its bytes visible
 abbrev pub ReadsNoFurther : Reading → Option (List ℕ) → Option (List ℕ) → Type 0
 ReadsNoFurther reading None left = ⊤
 ReadsNoFurther reading (Some file) None = ⊤
 ReadsNoFurther reading (Some file) (Some left) = IsWithinRecords reading file left
 
--- so many bytes may be read of a file: those that may belong to a header, or those up to the last record that an accepted header states
+-- At most `most` bytes of a file may be read: those of the longest header, or those up to the end of its last record.
+-- The latter may be read only if the header is accepted and states a record.
 abbrev pub IsReach : Reading → List ℕ → ℕ → Type 0
 IsReach reading file most =
     (most ≤ longest_header)
     ⊎ ((header : Header) × HasHeader reading file header × (0 < header.points)
     × (most ≤ end_of header))
 
--- no more bytes were given than may be read of this file
+-- at most the bytes that may be read of this file were given
 pub record TakesOfFile (reading : Reading) (file : List ℕ) (before now : ℕ) : Type 0 where
   pub most : ℕ
   pub reach : IsReach reading file most
   pub taken : now ≤ before + most
 
--- no byte was given, or no more than may be read of the file of this path
+-- no byte was given, or at most those that may be read of the file of this path
 abbrev pub TakesOfPath : Files → List ℕ → Reading → ℕ → ℕ → Type 0
 TakesOfPath all path reading before now =
     (now ≤ before)
     ⊎ ((file : List ℕ) × (all path ≡ Some file) × TakesOfFile reading file before now)
 
 module _ (all : Files) (scale : ℕ) (limits : Option Bounds) (inputs : List Input) where
-  -- so many bytes may be read of input i
+  -- `most` bytes may be read of input i
   pub record IsReachOf (i most : ℕ) : Type 0 where
     pub input : Input
     pub reading : Reading
@@ -67,14 +69,15 @@ module _ (all : Files) (scale : ℕ) (limits : Option Bounds) (inputs : List Inp
     pub content : all input.path ≡ Some file
     pub reach : IsReach reading file most
 
-  -- no more bytes were given than may be read of the inputs from one on and up to another, each once
+  -- at most the bytes that may be read of the inputs from one up to another, each once, were given
   pub record ReadsUpTo (from end before now : ℕ) : Type 0 where
     pub mosts : List ℕ
     pub count : from + length mosts ≡ end
     pub each : (k : ℕ) → k < length mosts → IsReachOf (from + k) (slice_index mosts k)
     pub taken : now ≤ before + sum mosts
 
-  -- the same up to an input of which each one before reads as points: none is read behind one that does not
+  -- The same up to an end, such that each input but the last one read reads as points. So no input after a refused one
+  -- is read.
   pub record ReadsWithin (from before now : ℕ) : Type 0 where
     pub end : ℕ
     pub within : end ≤ length inputs

@@ -28,35 +28,35 @@ FindsNumbered reading n (found.At p) = (p.origin ≡ reading.origin) × (p.numbe
 FindsNumbered reading n found.Outside = ⊤
 FindsNumbered reading n found.Early = ⊤
 
--- so many bytes were taken, and had this form
+-- the bytes of one record were taken, and this was found in them
 pub record Takes (reading : Reading) (header : Header) (n : ℕ) (ahead : List ℕ)
     (new : Option (List ℕ)) (it : Found Point) : Type 0 where
   pub whole : header.length ≤ length ahead
   pub rest : new ≡ Some (drop header.length ahead)
   pub bytes : BytesAre reading header.format n (take header.length ahead) it
 
--- what reading the next record found, of the bytes ahead, where they are known
+-- what reading the next record found in the bytes ahead, if they are known
 abbrev pub ReadsNext : Reading → Header → ℕ → Option (List ℕ) → Option (List ℕ) → Found Point → Type 0
 ReadsNext reading header n None new it = ⊤
 ReadsNext reading header n (Some ahead) new found.Early = length ahead < header.length
 ReadsNext reading header n (Some ahead) new found.Outside = Takes reading header n ahead new found.Outside
 ReadsNext reading header n (Some ahead) new (found.At p) = Takes reading header n ahead new (found.At p)
 
--- what the place of the bytes of record n was found to be: that of their point, which lies where points may lie
+-- What the place of the bytes of record n was found to be: that of their point, which lies where points may lie.
 abbrev pub PlaceIs : Reading → ℕ → ℕ → List ℕ → Found Place → Type 0
 PlaceIs reading format n bytes (found.At place) = (p : Point) × LiesAt place p
     × IsAllowed reading.limits p × IsPointOf format reading.shift reading.origin n bytes p
 PlaceIs reading format n bytes found.Outside = IsOutside reading format n bytes
 PlaceIs reading format n bytes found.Early = ⊥
 
--- what reading the place of the next record found: that of the point that the whole record would be found to be
+-- what reading the place of the next record found: the place of the point that the whole record would have
 abbrev pub FindsPlace : Reading → Header → ℕ → Option (List ℕ) → Option (List ℕ) → Found Place → Type 0
 FindsPlace reading header n ahead new (found.At place) = (p : Point) × LiesAt place p
     × IsAllowed reading.limits p × ReadsNext reading header n ahead new (found.At p)
 FindsPlace reading header n ahead new found.Outside = ReadsNext reading header n ahead new found.Outside
 FindsPlace reading header n ahead new found.Early = ReadsNext reading header n ahead new found.Early
 
--- no more bytes are held than may be read, of which a record has taken its own
+-- at most the bytes that may be read are held, less those of a record that was taken
 abbrev pub IsWithinReach : {T : Type 0} → ℕ → ℕ → ℕ → Found T → Type 0
 IsWithinReach size held most (found.At it) = held + size ≤ most
 IsWithinReach size held most found.Outside = held ≤ most

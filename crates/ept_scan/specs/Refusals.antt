@@ -12,7 +12,7 @@ use Rattle.ept_scan.specs.declared.scan_error.ScanError.TheVariants.{SourceFault
 use Rattle.ept_config.specs.Counts.{most_points}
 use Rattle.ept_scan.specs.LasFile.{head_of, HasHeader, records_of, IsTruncated, IsOutsideAt, AreFirstPoints}
 
--- Why a header is refused. A fault of the device and want of memory say nothing of the file.
+-- Why a header is refused. A fault of the device says nothing of the file, nor does running out of memory.
 abbrev pub HeaderIsRefused : Reading → List ℕ → ScanError → Type 0
 HeaderIsRefused reading file (BadLas source fault) = (source ≡ reading.origin)
     × HeaderReadsAs (head_of file) reading.expect (Err fault)
@@ -23,7 +23,7 @@ HeaderIsRefused reading file NoBounds = ⊥
 HeaderIsRefused reading file SourceFault = ⊤
 HeaderIsRefused reading file Memory = ⊤
 
--- record n is the first of those stated that is bad
+-- record n is the first bad one of those stated
 pub record IsFirstBad (reading : Reading) (header : Header) (records : List ℕ) (IsBad : ℕ → Type 0)
     (n : ℕ) : Type 0 where
   pub stated : n < header.points
@@ -43,14 +43,14 @@ RecordsAreRefused reading header records NoBounds = ⊥
 RecordsAreRefused reading header records SourceFault = ⊤
 RecordsAreRefused reading header records Memory = ⊤
 
--- why a file is refused: its header is, or that is accepted and its records are
+-- why a file is refused: its header is refused, or the header is accepted and its records are refused
 abbrev pub FileIsRefused : Reading → List ℕ → ScanError → Type 0
 FileIsRefused reading file error =
     HeaderIsRefused reading file error
     ⊎ ((header : Header) × HasHeader reading file header × (header.points ≤ most_points)
     × RecordsAreRefused reading header (records_of header file) error)
 
--- the refusal of a file names the place of its input; a fault of the device and want of memory name none
+-- The refusal of a file names the place of its input. A fault of the device names none, nor does running out of memory.
 abbrev pub NamesInput : ℕ → ScanError → Type 0
 NamesInput origin (BadLas source fault) = source ≡ origin
 NamesInput origin (OutOfBounds source number) = source ≡ origin
@@ -59,7 +59,7 @@ NamesInput origin NoBounds = ⊥
 NamesInput origin SourceFault = ⊤
 NamesInput origin Memory = ⊤
 
--- what it answers where a source cannot be had
+-- what is returned if a source cannot be opened
 abbrev pub scan_error_of : GetError → ScanError
 scan_error_of get.Failed = SourceFault
 scan_error_of get.Memory = Memory

@@ -18,7 +18,8 @@ use Rattle.ept_config.specs.Counts.{IsCountOf}
 abbrev pub in_order : List (List Point) → List Point
 in_order lists = flat_map (λ points. points) lists
 
--- How the input of this place is read, where a stored unit is 10^-scale native units: a raw coordinate is multiplied by 10^(scale - its own scale) and shifted.
+-- How the input of this place is read, if a stored unit is 10^-scale native units. A raw coordinate is multiplied by
+-- 10^(scale - its own scale) and shifted.
 pub record IsReadingOf (scale : ℕ) (limits : Option Bounds) (origin : ℕ) (input : Input)
     (reading : Reading) : Type 0 where
   pub origin_is : reading.origin ≡ origin
@@ -27,7 +28,7 @@ pub record IsReadingOf (scale : ℕ) (limits : Option Bounds) (origin : ℕ) (in
   pub expect_is : reading.expect ≡ input.expect
   pub limits_are : reading.limits ≡ limits
 
--- what refuses a file, where the refusal is one of a file
+-- what refuses a file, if the refusal is one of a file
 abbrev pub Blames : ScanError → Type 0 → Type 0
 Blames SourceFault fact = ⊤
 Blames Memory fact = ⊤
@@ -48,13 +49,13 @@ pub record PathIsRefused (all : Files) (path : List ℕ) (reading : Reading) (er
   pub content : all path ≡ Some file
   pub refused : FileIsRefused reading file error
 
--- the bounds: those that limit the points, or else the extent of all points
+-- the bounds: those that limit the points, or if there are none the extent of all points
 abbrev pub AreBounds : Option Bounds → List Point → Bounds → Type 0
 AreBounds None points bounds = IsExtentOf points bounds
 AreBounds (Some limits) points bounds = bounds ≡ limits
 
 module _ (all : Files) (scale : ℕ) (limits : Option Bounds) (inputs : List Input) where
-  -- input i is read so
+  -- input i is this one, and is read in this way
   pub record IsInput (i : ℕ) (input : Input) (reading : Reading) : Type 0 where
     pub is : slice_get inputs i ≡ Some input
     pub reading_is : IsReadingOf scale limits i input reading
@@ -66,7 +67,7 @@ module _ (all : Files) (scale : ℕ) (limits : Option Bounds) (inputs : List Inp
     pub is_input : IsInput i input reading
     pub has : HasPoints all input.path reading points
 
-  -- the points of each input from one on and up to another
+  -- the points of each input from one up to another
   pub record ArePointsFrom (from end : ℕ) (lists : List (List Point)) : Type 0 where
     pub count : from + length lists ≡ end
     pub each : (k : ℕ) (d : List Point) → k < length lists → HasPointsAt (from + k) (slice_index_or lists k d)
@@ -89,7 +90,7 @@ module _ (all : Files) (scale : ℕ) (limits : Option Bounds) (inputs : List Inp
     pub are : ArePointsFrom from (length inputs) lists
     pub none : in_order lists ≡ []
 
-  -- why the inputs from one on are refused
+  -- why the inputs from the place `from` on are refused
   abbrev pub ScanIsRefused : ℕ → ScanError → Type 0
   ScanIsRefused from NoBounds = LacksBounds from
   ScanIsRefused from SourceFault = ⊤
@@ -98,7 +99,7 @@ module _ (all : Files) (scale : ℕ) (limits : Option Bounds) (inputs : List Inp
   ScanIsRefused from (OutOfBounds source number) = IsFirstRefused from (OutOfBounds source number)
   ScanIsRefused from (TooManyPoints source) = IsFirstRefused from (TooManyPoints source)
 
-  -- the inputs from one on have these points, all in order, these counts and these bounds
+  -- the inputs from the place `from` on have these points, all in order, these counts and these bounds
   pub record IsScan (from : ℕ) (points : List Point) (done : ScanDone) : Type 0 where
     pub lists : List (List Point)
     pub are : ArePointsFrom from (length inputs) lists

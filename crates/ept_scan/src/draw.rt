@@ -20,7 +20,7 @@ use ept_base::Source;
 use ept_las::Header;
 use ept_point::{Point, PointNumber};
 
-/// Reads the next record of a file, of which there is one, and moves on behind it.
+/// Reads the next record of a file, and moves on to the one after it. The file has a next record.
 #[inline(always)]
 pub(crate) fn draw<S: Source>(
     window: &mut Window,
@@ -75,7 +75,7 @@ pub(crate) fn draw<S: Source>(
     Ok(point)
 }
 
-// The header of a file, which is read now where it was not yet. The place is then before this record.
+// The header of a file. If it was not read yet, it is read now. The place is then before this record.
 #[inline(always)]
 fn header_at<S: Source>(
     window: &mut Window,
@@ -108,7 +108,7 @@ fn header_at<S: Source>(
     }
 }
 
-// Reads the header of a file that is at its front, and passes over the records before this one.
+// Reads the header of a file from its first byte, and passes over the records before this one.
 #[inline(never)]
 fn start<S: Source>(
     window: &mut Window,
@@ -149,7 +149,7 @@ fn start<S: Source>(
     Ok(header)
 }
 
-// How a refused header is told: as a fault of the source, or as a change of this file.
+// The error for a refused header: a fault of the source, or a change of this file.
 fn change_of(refused: ScanError, origin: u32) -> ReadError
     ensures { result ≡ change_of refused origin }
 {

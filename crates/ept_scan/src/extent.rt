@@ -18,7 +18,7 @@ fn is_between(least: i32, greatest: i32, at: i32) -> bool
     least <= at && at <= greatest
 }
 
-// Whether a point that lies at a place lies within bounds.
+// Whether a point at this place lies within bounds.
 #[inline(always)]
 fn is_within(bounds: &Bounds, place: Place) -> bool
     ensures { (p : at.Point) → LiesAt place p → IsTrue result ↔ IsWithin bounds.now p }
@@ -29,7 +29,7 @@ fn is_within(bounds: &Bounds, place: Place) -> bool
     x & y & z
 }
 
-/// Whether a point may lie at a place: within bounds, where there are any.
+/// Whether a point may lie at a place: within the bounds, if there are any.
 #[inline(always)]
 pub(crate) fn may_lie(limits: Option<Bounds>, place: Place) -> bool
     ensures { (p : at.Point) → LiesAt place p → IsTrue result ↔ IsAllowed limits p }
@@ -111,7 +111,7 @@ pub(crate) fn grown(extent: Option<Bounds>, place: Place) -> Bounds
     }
 }
 
-/// The extent of all points of two extents, of which either may be of no points.
+/// The extent of all points of two extents. Either may be of no points.
 pub(crate) fn united(a: Option<Bounds>, b: Option<Bounds>) -> Option<Bounds>
     ensures { (xs ys : List at.Point) → HasExtent xs a → HasExtent ys b → HasExtent (xs ++ ys) result }
 {

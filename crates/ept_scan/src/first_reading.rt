@@ -28,15 +28,17 @@ use ept_point::List;
 use ept_space::Bounds;
 use std::alloc::Global;
 
-/// Reads the inputs from the place `from` on, each from its front to its last record, and answers how
-/// many points each has and where they lie. Points are to lie within the kept bounds, or where there
-/// are none within the given ones. The inputs are opened in their order, each once, and none before `from`
-/// or after one that is refused. In all no more bytes are read than of each file the first 375, or those up
-/// to the end of the last record where its header is accepted and states one.
+/// Reads the inputs from the place `from` on, each from its first byte to its last record. Returns how many points each
+/// has and the bounds in which they lie. Points have to lie within the kept bounds. If there are none, they have to lie
+/// within the given bounds, if there are any.
+///
+/// The inputs are opened in their order, each once. No input before `from` is opened, nor one after a refused input. In
+/// total, at most the first 375 bytes of each file are read, or its bytes up to the end of the last record. The latter
+/// are read only if the header is accepted and states a record.
 ///
 /// # Errors
 ///
-/// The first cause in the order in which [`ScanError`] tells.
+/// The first cause in the order that [`ScanError`] states.
 pub fn scan<H: Shelf>(
     alloc: Global,
     shelf: &mut H,
@@ -89,7 +91,7 @@ fn limits_of(kept: Option<Bounds>, given: Option<Bounds>) -> Option<Bounds>
     }
 }
 
-// Reads the inputs from one on.
+// Reads the inputs from the place `from` on.
 fn scan_inputs<H: Shelf>(
     alloc: Global,
     shelf: &mut H,
@@ -163,8 +165,8 @@ fn bounds_of(limits: Option<Bounds>, counts: &[SourceCount]) -> Option<Bounds>
     }
 }
 
-/// The extent of all points with these counts, in stored units: the union of their extents, or `None`
-/// where no input has a point. Of a scan without bounds this is what [`scan`] answers as its bounds.
+/// The extent of all points with these counts, in stored units: the union of their extents. It is `None` if no input
+/// has a point. A [`scan`] without bounds returns this extent as its bounds.
 pub fn whole_extent(counts: &[SourceCount]) -> Option<Bounds>
     ensures { (lists : List (List at.Point)) → AllZip IsCountOf lists counts.now
         → HasExtent (in_order lists) result }

@@ -9,7 +9,7 @@ use ept_config::Input;
 use ept_las::Shift;
 use ept_space::Bounds;
 
-/// How the input of this place is read, where a stored unit is 10^-`scale` native units.
+/// How the input of this place is read, if a stored unit is 10^-`scale` native units.
 pub(crate) fn reading_of(input: &Input, scale: u8, origin: u32, limits: Option<Bounds>) -> Reading
     requires most { scale ≤ MAX_SCALE }
     requires scale { input.now.scale ≤ scale }

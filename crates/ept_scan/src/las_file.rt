@@ -22,7 +22,7 @@ use ept_config::{MAX_POINTS, SourceCount};
 use ept_las::{HEAD_LENGTH, Header, LasError, SCALE_WIDTH, read_header};
 use ept_space::Bounds;
 
-/// Reads a file from its front to its last record.
+/// Reads a file from its first byte to its last record.
 pub(crate) fn scan_file<S: Source>(
     window: &mut Window,
     source: &mut S,
@@ -60,7 +60,7 @@ pub(crate) fn scan_file<S: Source>(
     })
 }
 
-/// Reads the header of a file from its front. The window and the source then have the whole file.
+/// Reads the header of a file from its first byte. The window and the source then have the whole file.
 pub(crate) fn begin<S: Source>(
     window: &mut Window,
     source: &mut S,
@@ -104,7 +104,7 @@ fn header_of(bytes: &[u8], expect: Option<[u8; SCALE_WIDTH]>) -> Result<Header, 
     read_header(&head, bytes.len(), expect)
 }
 
-/// Passes over so many of the bytes ahead, or over all where there are fewer.
+/// Passes over `count` of the bytes ahead, or over all if there are fewer.
 pub(crate) fn skip<S: Source>(window: &mut Window, source: &mut S, count: u64) -> Result<(), Failed>
     ensures ahead { OnOk result (Skips (prepend_known window.old (S.left source.old))
         (prepend_known window.new (S.left source.new)) count) }
@@ -128,7 +128,7 @@ pub(crate) fn skip<S: Source>(window: &mut Window, source: &mut S, count: u64) -
     Ok(())
 }
 
-// Reads all records, which are what is ahead, and answers the extent of their points.
+// Reads all records, which are what is ahead, and returns the extent of their points.
 fn scan_records<S: Source>(
     window: &mut Window,
     source: &mut S,

@@ -24,20 +24,19 @@ pub fn scan_once_law()
     ensures { ScanInOneWay }
 {}
 
-/// Inputs that have points and bounds are not refused, so where they have, `scan` answers `Ok`, or a
-/// fault of a source or want of memory.
+/// Inputs that have points and bounds are not refused. So `scan` returns `Ok` for them, unless a source fails or memory
+/// runs out.
 pub fn scan_or_refusal_law()
     ensures { ScanOrRefusal }
 {}
 
-/// Inputs are refused for one cause, so where there is one, `scan` answers it, or a fault of a source
-/// or want of memory.
+/// Inputs are refused for one cause. If there is a cause, `scan` returns it, unless a source fails or memory runs out.
 pub fn one_refusal_law()
     ensures { ScanForOneCause }
 {}
 
-/// Inputs that were scanned have the same points and counts within the bounds that were found, so what
-/// [`scan`](crate::scan) answers can be kept for a second reading.
+/// Inputs that were scanned have the same points and counts within the bounds that were found. So the result of
+/// [`scan`](crate::scan) can be kept for a second reading.
 pub fn kept_law()
     ensures { ScanIsKept }
 {}
@@ -47,8 +46,8 @@ pub fn placed_law()
     ensures { ScanLiesWithin }
 {}
 
-/// The points that were scanned stand in the order of their ids, by the place of the input and then by
-/// the number of the record, so no two of them have one id.
+/// The points that were scanned are in the order of their ids: by the place of the input, then by the number of the
+/// record. No two of them have the same id.
 pub fn ascending_law()
     ensures ascending { ScanAscends }
     ensures distinct { ScanHasDistinctIds }
@@ -64,24 +63,24 @@ pub fn origin_law()
     ensures { ScanComesFromInputs }
 {}
 
-/// What was kept of the first inputs and what [`scan`](crate::scan) answers of those behind them, within
-/// the kept bounds, is together the scan of all inputs: it has the points of both in order, and the counts
-/// of both. The other way round, a scan of all inputs within bounds has two parts, the scan of the first
-/// ones and that of those behind them.
+/// The scan of all inputs is the scan of the first inputs, then that of the later inputs. Within the same bounds it has
+/// the points of both in order, and the counts of both. So what was kept of the first inputs and what
+/// [`scan`](crate::scan) returns for the later inputs can be joined. Conversely, a scan of all inputs within bounds can
+/// be divided into these two parts.
 pub fn joined_law()
     ensures joined { ScansJoin }
     ensures front { ScanFront }
     ensures back { ScanBack }
 {}
 
-/// Where the first inputs were scanned, those behind them are refused for the cause for which all inputs
-/// are refused within these bounds.
+/// After a scan of the first inputs, the later inputs are refused for the same cause as all inputs, within these
+/// bounds.
 pub fn refused_behind_law()
     ensures { RefusedBehind }
 {}
 
-/// A change that a [`Reader`](crate::Reader) tells is one of the inputs that it was opened on: that input
-/// is not as it was counted, in its header or in the record that is told.
+/// A change that a [`Reader`](crate::Reader) reports is a change of an input that it was opened on. The header of that
+/// input, or the record with the reported number, is not as it was counted.
 pub fn changed_law()
     ensures { ChangeIsOfInput }
 {}

@@ -21,13 +21,13 @@ use ept_config::{Kept, SourceCount, total_of};
 use ept_point::PointNumber;
 use std::alloc::Global;
 
-/// Opens the inputs of which records are left, where `drawn` records were drawn of all, in their order
-/// and each once. An input whose records were all drawn, or that has no points, is not opened. What a
-/// first reading has found of each input is given: the number of its points, and where they lie.
+/// Opens the inputs of which records are left after the first `drawn` records of all, in their order and each once. An
+/// input whose records were all drawn, or that has no points, is not opened. The counts state what a first reading
+/// found of each input: the number of its points, and their extent.
 ///
 /// # Errors
 ///
-/// `SourceFault` only where the shelf's count of faults rose, and `Memory`.
+/// `Memory`, and `SourceFault` only if the shelf's count of faults rose.
 pub fn reader<S: Source, H: Shelf<Source = S>>(
     alloc: Global,
     shelf: &mut H,
@@ -82,7 +82,7 @@ pub fn reader<S: Source, H: Shelf<Source = S>>(
 }
 
 impl<S: Source> Reader<S> {
-    /// Gives all sources back to the shelf. It takes no memory.
+    /// Returns all sources to the shelf. It takes no memory.
     pub fn retire_all<H: Shelf<Source = S>>(self, shelf: &mut H)
         ensures later { H.faults shelf.old ≤ H.faults shelf.new }
         ensures failed { HasFault S.faults self → Rose (H.faults shelf.old) (H.faults shelf.new) }
@@ -107,7 +107,7 @@ impl<S: Source> Reader<S> {
     }
 }
 
-// Gives sources back to the shelf.
+// Returns sources to the shelf.
 fn retire_parts<S: Source, H: Shelf<Source = S>>(mut parts: Vec<Part<S>>, shelf: &mut H)
     ensures later { H.faults shelf.old ≤ H.faults shelf.new }
     ensures failed { HasFailed S.faults parts.items → Rose (H.faults shelf.old) (H.faults shelf.new) }
@@ -126,7 +126,7 @@ fn retire_parts<S: Source, H: Shelf<Source = S>>(mut parts: Vec<Part<S>>, shelf:
     parts.destroy_empty();
 }
 
-// The input and its record behind so many records.
+// The input and its record that come after the records that were drawn.
 #[derive(Clone, Copy, Debug)]
 struct Start {
     index: usize,
@@ -154,7 +154,7 @@ fn start_of(counts: &[SourceCount], drawn: u64) -> Start
     }
 }
 
-// Opens the inputs from one on that have points, onto a list that has room for them.
+// Opens the inputs with points from the place `from` on, and pushes them onto a list that has room for them.
 fn open_parts<S: Source, H: Shelf<Source = S>>(
     shelf: &mut H,
     kept: &Kept,
@@ -182,7 +182,7 @@ fn open_parts<S: Source, H: Shelf<Source = S>>(
     Ok(())
 }
 
-// Opens an input that has points.
+// Opens an input if it has points.
 fn open_input<S: Source, H: Shelf<Source = S>>(
     shelf: &mut H,
     kept: &Kept,

@@ -7,13 +7,13 @@ use crate::reading::Reading;
 use ept_las::Header;
 use ept_point::PointNumber;
 
-/// A file that the first reading has found to have points, as the second one reads it.
+/// A file in which the first reading found points, as the second reading reads it.
 #[derive(Debug)]
 pub(crate) struct Part<S> {
     pub(crate) source: S,
-    /// How it is read. Its points are to lie within the extent that was found.
+    /// How it is read. Its points have to lie within the extent that was found.
     pub(crate) reading: Reading,
-    /// The number of its points that was found.
+    /// The number of points that was found in it.
     pub(crate) points: u64,
     pub(crate) ghost few: { points ≤ most_points },
 }
@@ -21,7 +21,7 @@ pub(crate) struct Part<S> {
 /// The place of the second reading in a file.
 #[derive(Clone, Copy, Debug)]
 pub(crate) struct Cursor {
-    /// What the header says, once it was read.
+    /// What the header says, if it was read already.
     pub(crate) header: Option<Header>,
     /// The record that is read next.
     pub(crate) number: PointNumber,

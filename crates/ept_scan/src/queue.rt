@@ -22,7 +22,7 @@ use ept_point::Point;
 pub(crate) struct Queue<S> {
     /// The files of which records were left.
     pub(crate) parts: Vec<Part<S>>,
-    /// The place of the one that is read, or behind the last.
+    /// The place of the file that is read, or the place after the last file.
     pub(crate) at: usize,
     /// The place in it.
     pub(crate) cursor: Cursor,
@@ -37,7 +37,7 @@ struct Drawn {
 }
 
 impl<S: Source> Queue<S> {
-    /// Reads the next record, of which there is one.
+    /// Reads the next record. There has to be one.
     #[inline(always)]
     pub(crate) fn next(&mut self) -> Result<Point, ReadError>
         requires queue { IsQueue S.whole S.left S.given self.old }
@@ -70,8 +70,8 @@ impl<S: Source> Queue<S> {
         Ok(drawn.point)
     }
 
-    /// Appends the next `count` records, of which there are so many, to a list that has room for them.
-    /// After a refusal the list is as it was.
+    /// Appends the next `count` records to a list that has room for them. At least that number of records has to be
+    /// left. After a refusal the list is as it was.
     pub(crate) fn next_points(
         &mut self,
         count: usize,
@@ -118,7 +118,7 @@ impl<S: Source> Queue<S> {
     }
 }
 
-// Reads the next record of a file, and rewinds the file behind the last one.
+// Reads the next record of a file. After the last record it rewinds the file.
 #[inline(always)]
 fn draw_on<S: Source>(
     window: &mut Window,

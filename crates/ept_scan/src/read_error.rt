@@ -9,9 +9,9 @@ use std::alloc::AllocError;
 pub enum ReadError {
     /// A source failed, or one could not be opened.
     SourceFault,
-    /// The input of this place in the list differs from what the first reading found: with the number 0
-    /// its header is refused or states another number of points; with any number this record ends
-    /// early, or does not lie within the extent that was found.
+    /// The input of this place in the list differs from what the first reading found. With the number 0, its header is
+    /// refused or states another number of points. With any number, this record ends early, or its point does not lie
+    /// within the extent that was found.
     SourceChanged { source: u32, number: PointNumber },
     /// Memory ran out.
     Memory,

@@ -12,10 +12,10 @@ pub struct Reading {
     pub origin: u32,
     /// How raw coordinates become stored ones.
     pub shift: Shift,
-    /// The scales and offsets that the header is to have (LAS 1.4 R15, section 2.4), byte for byte.
+    /// The scales and offsets that the header has to have (LAS 1.4 R15, section 2.4), byte for byte.
     pub expect: Option<[u8; SCALE_WIDTH]>,
-    /// Where all points are to lie, in stored units, if they are to.
+    /// The bounds, in stored units, within which all points have to lie, if there are any.
     pub limits: Option<Bounds>,
-    // What the width of the place says, since a definition sees a number without a width.
+    // The range of the place's type, since a definition sees a number without its type.
     ghost origin_fits: { origin < 2 ^ 32 },
 }

@@ -17,7 +17,7 @@ use ept_point::{Point, PointNumber};
 /// What the next record of a file was found to be.
 #[derive(Clone, Copy, Debug)]
 pub(crate) enum Found<T> {
-    /// Its point, or the place of it, which lies where points may lie.
+    /// The point of the record, or its place, which is where points may lie.
     At(T),
     /// Its place is not in stored units, or not within the limits.
     Outside,
@@ -25,8 +25,8 @@ pub(crate) enum Found<T> {
     Early,
 }
 
-/// Reads record `number` of a file, which is the next one: from its place on the window and the source
-/// have the rest of the file. Reads in pieces, and no further than the last record.
+/// Reads record `number` of a file, which is the next one. The window and the source have the rest of the file from its
+/// place on. It reads in pieces, and no further than the last record.
 #[inline(always)]
 pub(crate) fn next_point<S: Source>(
     window: &mut Window,
@@ -63,7 +63,7 @@ pub(crate) fn next_point<S: Source>(
     Ok(found)
 }
 
-/// The same, of which the place alone is made, and not the whole point.
+/// Reads the next record in the same way, but makes only its place and not the whole point.
 #[inline(always)]
 pub(crate) fn next_place<S: Source>(
     window: &mut Window,
@@ -98,7 +98,7 @@ pub(crate) fn next_place<S: Source>(
     Ok(found)
 }
 
-// How many bytes may be read ahead from record `number` on: those of the records, a piece at most.
+// How many bytes may be read ahead from record `number` on: those of the records, at most a piece.
 #[inline(always)]
 fn piece_of(header: &Header, number: PointNumber) -> usize
     requires { number < header.now.points }

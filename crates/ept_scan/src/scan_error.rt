@@ -5,16 +5,17 @@ use ept_las::LasError;
 use ept_point::PointNumber;
 use std::alloc::{AllocError, AllocFailed};
 
-/// Why a scan is refused. The inputs are read in order, and the first cause is answered: of an input
-/// its header's faults in their order, then `TooManyPoints`, then of each record in turn that the file
-/// ends before its last byte, and that it is out of bounds. `NoBounds` comes after all.
+/// Why a scan is refused. The inputs are read in order, and the first cause is returned. The causes of an input are in
+/// this order: the faults of its header, then `TooManyPoints`, then the faults of each record in turn. The faults of a
+/// record are that the file ends before its last byte, and then that it is out of bounds. `NoBounds` comes after all
+/// inputs.
 #[derive(Clone, Copy, Debug, PartialEq, Eq)]
 pub enum ScanError {
     /// A source failed, or one could not be opened: the shelf's count of faults rose.
     SourceFault,
     /// The input of this place in the list is no LAS file that can be read.
     BadLas { source: u32, fault: LasError },
-    /// The record of this number of this input is not in stored units, or not within the bounds.
+    /// The record of this number in this input cannot be stated in stored units, or is not within the bounds.
     OutOfBounds { source: u32, number: PointNumber },
     /// This input states more than `MAX_POINTS` points.
     TooManyPoints { source: u32 },

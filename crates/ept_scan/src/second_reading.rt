@@ -11,9 +11,9 @@ use crate::read_error::ReadError;
 use ept_base::Source;
 use ept_point::Point;
 
-/// The second reading: it gives the records of all inputs again, in the order of the inputs and of
-/// their records, a batch at a time. It holds one piece of a file at most. A file is rewound once its
-/// last record was read, so few files are open at once.
+/// The second reading. It reads the records of all inputs again, in the order of the inputs and of their records, a
+/// batch at a time. It holds at most one piece of a file. A file is rewound after its last record was read, so few
+/// files are open at a time.
 #[derive(Debug)]
 pub struct Reader<S> {
     pub(crate) queue: Queue<S>,
@@ -24,7 +24,7 @@ pub struct Reader<S> {
 }
 
 impl<S: Source> Reader<S> {
-    /// Sets how many more records may be drawn. Before the first call it is 0. It takes no memory.
+    /// Sets how many more records may be drawn. Before the first call this number is 0. It takes no memory.
     pub fn allow(&mut self, n: u64)
         requires reader { IsReader S.whole S.left S.given S.faults self.old }
         ensures allowed { allowed_of self.new ≡ n }
@@ -49,17 +49,17 @@ impl<S: Source> Reader<S> {
         self.drawn
     }
 
-    /// Appends the next records: n of them, or fewer where the allowance or the records end.
+    /// Appends the next records: n of them, or fewer if the allowance or the records end.
     ///
     /// # Errors
     ///
-    /// `Memory` leaves the reader and the list as they were. After `SourceFault` and `SourceChanged` the
-    /// list is as it was, and the reader answers the same from then on.
+    /// `Memory` leaves the reader and the list as they were. After `SourceFault` and `SourceChanged` the list is as it
+    /// was, and the reader returns the same error from then on.
     pub fn next_batch(&mut self, n: usize, out: &mut Vec<Point>) -> Result<(), ReadError>
         requires reader { IsReader S.whole S.left S.given S.faults self.old }
 
-        // Whatever the sources tell, so many records are drawn, and each lies where the first reading
-        // has found the points of its file.
+        // Whatever the sources make visible, `batch_of n` records are drawn. The point of each lies within the extent
+        // that the first reading found for its file.
         ensures drawn { drawn_of self.new
             ≡ drawn_of self.old + (if is_ok result then batch_of n self.old else 0) }
         ensures allowed { allowed_of self.new
@@ -70,12 +70,12 @@ impl<S: Source> Reader<S> {
             ((points : List at.Point) × (out.new.items ≡ out.old.items ++ points)
             × (length points ≡ batch_of n self.old) × All (LiesIn (files_of S.whole self.old)) points) }
 
-        // They are the next records of the files, each with the point that its file has there.
+        // They are the next records of the files, each with the point that its file has at that record.
         ensures records { OnOk result
             ((points : List at.Point) × (out.new.items ≡ out.old.items ++ points)
             × AreDrawn (files_of S.whole self.old) (left_of self.old) points) }
 
-        // Where the sources hold the bytes that were scanned, the batch is the next points.
+        // If the sources hold the bytes that were scanned, the batch is the next points.
         ensures rest { (points : List at.Point) → IsRest S.whole self.old points
             → OnOk result ((out.new.items ≡ out.old.items ++ take (batch_of n self.old) points)
             × IsRest S.whole self.new (drop (batch_of n self.old) points)) }

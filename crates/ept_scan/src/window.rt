@@ -9,8 +9,8 @@ use ept_base::{Failed, Source, read_full};
 use std::alloc::{AllocError, Global};
 use std::marker::Model;
 
-/// How many bytes of a file are read at once, and held, at most. It is more than the longest record of
-/// a LAS file, of 65,535 bytes.
+/// How many bytes of a file are read at once, and held, at most. It is more than the longest record of a LAS file,
+/// which has 65,535 bytes.
 pub const PIECE: usize = 262_144;
 
 /// The bytes of a source that were read and are not yet used, in a buffer of the size of a piece.
@@ -45,7 +45,7 @@ impl Window {
         })
     }
 
-    /// Lets go of all bytes.
+    /// Discards all bytes.
     pub(crate) fn clear(&mut self)
         ensures { self.new ≡ [] }
     {
@@ -65,7 +65,7 @@ impl Window {
         &self.buffer[self.start..self.end]
     }
 
-    /// Lets go of the first bytes.
+    /// Discards the first bytes.
     pub(crate) fn consume(&mut self, count: usize)
         requires { count ≤ length self.old }
         ensures { self.new ≡ drop count self.old }
@@ -73,7 +73,7 @@ impl Window {
         self.start += count;
     }
 
-    /// Reads on, up to `most` bytes, where there are fewer than `least`. Answers whether there are.
+    /// Reads more bytes, up to `most`, if there are fewer than `least`. Returns whether there are now at least `least`.
     #[inline(always)]
     pub(crate) fn fill<S: Source>(
         &mut self,
@@ -103,7 +103,7 @@ impl Window {
         Ok(self.len() >= least)
     }
 
-    /// Reads on until there are `most` bytes, or the source is at its end.
+    /// Reads more bytes until there are `most`, or the source is at its end.
     #[inline(never)]
     pub(crate) fn refill<S: Source>(&mut self, source: &mut S, most: usize) -> Result<(), Failed>
         requires { most ≤ PIECE }
@@ -126,8 +126,8 @@ impl Window {
     }
 }
 
-// Moves the bytes from `start` to `end` to the front of the buffer, and reads on behind them until
-// there are `most` bytes, or the source is at its end. Answers the number of bytes at the front.
+// Moves the bytes from `start` to `end` to the start of the buffer. Then it reads more bytes after them until there are
+// `most`, or the source is at its end. Returns the number of bytes that are then at the start.
 fn read_behind<S: Source>(
     source: &mut S,
     buffer: &mut [u8],

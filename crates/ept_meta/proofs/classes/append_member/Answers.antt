@@ -4,7 +4,7 @@ use Rattle.ept_meta.specs.Json.{naturals_text}
 use Rattle.ept_meta.specs.BuildText.{first_member}
 use Rattle.ept_meta.proofs.classes.append_member.Goals as goal
 
--- classes that are not none have a member
+-- a list of classes that is not empty has a member
 some_first : (classes : List ℕ) → false ≡ eqb (length classes) 0 → first_member classes ≡ codes ",\"firstClasses\":" ++ naturals_text classes
 some_first [] some = absurd (false≢true some)
 some_first (class ∷ classes) some = refl

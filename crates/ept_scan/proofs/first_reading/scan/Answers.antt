@@ -30,7 +30,7 @@ returns-in-Some-clause-ordered g c =
     let place = subst (λ (o : Option Bounds). IfSome o HasPlace) (sym c.limits_of-limits.ensures) (limits_ordered c.args.kept c.args.config.now.bounds c.requires.kept c.args.config.now.has_bounds) in
     bounds_ordered c.limits_of-limits.result (in_order found.lists) c.in-Some.bounds place (c.in-Some.ensures found.lists (subst (λ (l : List SourceCount). AllZip IsCountOf found.lists l) (sym c.deref.ensures.value) found.counts_are))
 
--- where there are limits they are the bounds
+-- if there are limits, they are the bounds
 limits_kept : (limits : Option Bounds) (points : List Point) (bounds : Bounds) → AreBounds limits points bounds → IfSome limits (λ b. bounds ≡ b)
 limits_kept None points bounds are = tt
 limits_kept (Some limits) points bounds are = are
