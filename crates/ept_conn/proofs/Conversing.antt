@@ -30,9 +30,9 @@ use Rattle.ept_conn.proofs.Wanting.{read-parts, write-some}
 use Rattle.ept_conn.proofs.Falling.{written-falls, failed-falls}
 use Rattle.ept_conn.proofs.Histories.{has-wider, start-has, fed-has, worked-has, sent-has, failed-has, ends-has, reads-has, never-damaged}
 
--- ---- what is told
+-- ---- what is visible
 
--- a step and what is told afterwards make another step
+-- a step and what is visible afterwards make another step
 pub steps-with : {X : Type 0} (R S : X → X → Type 0) (Q : X → Type 0) (old new : Option X) → StepsBy R old new → Tells Q new → ((a b : X) → R a b → Q b → S a b) → StepsBy S old new
 steps-with R S Q None None step told f = tt
 steps-with R S Q None (Some b) step told f = absurd step
@@ -58,7 +58,7 @@ taken-none n into within none =
 
 -- ---- reads so far
 
--- more bytes and more text behind change nothing
+-- more bytes and more text at the end change nothing
 answered-longer : (served : Served) (old : Wire) (bytes text more behind : List ℕ) (at : ℕ × ℕ) → IsAnsweredAt served old bytes text at → IsAnsweredAt served old (bytes ++ more) (text ++ behind) at
 answered-longer served old bytes text more behind at is = record {
   came = is.came;
@@ -79,7 +79,7 @@ all-push : {X : Type 0} (P : X → Type 0) (xs : List X) (x : X) → AllByRecurs
 all-push P [] x all one = (one, tt)
 all-push P (y ∷ ys) x all one = (all.0, all-push P ys x all.1 one)
 
--- a read at which each turn was answered
+-- a read at which each turn had its response
 answered-now : (served : Served) (old now : Wire) (bytes text : List ℕ) → now.taken ≡ old.taken ++ bytes → now.written ≡ old.written ++ text → HasAnswered served bytes text → IsAnsweredAt served old bytes text (length now.taken, length now.written)
 answered-now served old now bytes text taken written answers = record {
   came = length bytes;
@@ -221,7 +221,7 @@ served-over served reason start now state ends c is = record {
   ended = ends-has served reason (now.left ≡ []) c.bytes c.text state ends c.closed c.has is;
 }
 
--- a connection that was served over a wire that tells ends well, where each plan and each tile is there
+-- a connection that was served over a visible wire ends well, if each plan and each tile is there
 pub ends-well : (files : Files) (served : Served) (reason link store : Type 0) (old new : Option Wire) (ends : End) → IsServed files served → old ≢ None → StepsBy (IsServedOver served reason ends) old new
     → (ends ≡ end.LinkFault → link) → (ends ≡ end.StoreFault → store) → EndsWell ends link store
 ends-well files served reason link store old new end.Closed is wired over links stores = tt
@@ -313,7 +313,7 @@ written-cause old new before now later (inr failed) = record { later = later; ro
 
 -- ---- since the start
 
--- this end is fixed only where the device's count rose since the start
+-- this end is fixed only if the device's count of faults rose since the start
 pub record CauseSince (cause : Fault) (state : State) (before now : ℕ) : Type 0 where
   pub later : before ≤ now
   pub rose : state.fault ≡ Some cause → Rose before now

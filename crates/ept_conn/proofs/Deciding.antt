@@ -14,7 +14,7 @@ use Rattle.ept_conn.specs.Answers.{Served}
 use Rattle.ept_conn.specs.Served.{IsSentOf, HasPlan, IsThere, IsDecided}
 use Rattle.ept_conn.proofs.Plans.{one-plan}
 
--- the plan that is there, and the points in an area of the tile that is
+-- the plan, if it is there, and the points in an area of a tile, if it is there
 abbrev found-nodes : (files : Files) (area : Box3) (first second : ℕ) → HasPlan files area first second ⊎ (¬ HasPlan files area first second) → Option (List Node)
 found-nodes files area first second (inl has) = Some has.0
 found-nodes files area first second (inr none) = None

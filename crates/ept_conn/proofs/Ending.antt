@@ -1,4 +1,4 @@
--- What a session has sent where it ends.
+-- What a session has sent when it ends.
 use Rattle.std.proofs.Common.{◌≡◌, ◌∙◌, ◌<◌, inl, inr, ℕ, List, [], ◌∷◌, ◌++◌, length, take, drop, true, false, Option, refl, sym, ap, subst, arith, append_assoc, append-nil}
 use Rattle.std.specs.List.{AllByRecursion, flat_map}
 use Rattle.std.proofs.lemmas.List.{take-append-drop}
@@ -28,9 +28,9 @@ use Rattle.ept_conn.proofs.TurnLemmas.{some-due, idle-due}
 use Rattle.ept_conn.proofs.Sending.{answers-none, answers-one, sent-before}
 use Rattle.ept_conn.proofs.Wanting.{IsAtRest, has-none-idle}
 
--- ---- the turns that are not answered
+-- ---- the turns without a response
 
--- the turns of the bytes, with more behind them: those answered, the one in hand, and those of what is held
+-- the turns of the bytes, with more after them: those with a response, the turn in hand, and those of what is held
 some-others : (served : Served) (bytes sent more : List ℕ) (old : State) (hand : Hand) (g : Goes served bytes sent old) → old.hand ≡ hand → (others : List Turn) × AreDue (fed fresh (bytes ++ more)) (g.before ++ (turns_in hand ++ others))
 some-others served bytes sent more old hand g is =
     let due = some-due (fed old.held more) in
@@ -55,7 +55,7 @@ word-cut served bytes sent cause before others word due whole all is = record {
   text_is = ap (λ (w : List ℕ). w ++ word) all;
 }
 
--- what was put out of the answer to a query
+-- the part of the response to a query that was output
 front-of : (served : Served) (turn : Turn) (plan : Plan) (done : ℕ) → IsTurnsPlan served turn plan → IsPlanOfTurn served.files turn plan → HasTiles served.files plan done → done < length plan.tiles → IsQueryFront served turn (begun_of served (Tiles turn plan done))
 front-of served turn plan done planned has_plan tiles fit = record {
   area = plan.area;
@@ -137,7 +137,7 @@ pub damaged-cut : (served : Served) (bytes sent : List ℕ) (old new : State) (f
 damaged-cut served bytes sent old new found out g stops damaged =
     damaged-on served bytes sent old new found old.hand refl out g stops.words damaged
 
--- ---- want of memory for what is fed
+-- ---- no memory for what is fed
 
 pub unfed-cut : (served : Served) (bytes sent piece : List ℕ) (old : State) → old.out ≡ [] → old.hand ≡ Empty → Goes served bytes sent old → IsCutOff served (bytes ++ piece) (AreLastWords served fault.Memory) (sent ++ old.out)
 unfed-cut served bytes sent piece old out hand g =
@@ -147,7 +147,7 @@ unfed-cut served bytes sent piece old out hand g =
 
 -- ---- the link fails
 
--- the answer to a turn in hand is what was put out of it and the rest
+-- the response to a turn in hand is the part that was output and the rest
 pub hand-answers : (served : Served) (hand : Hand) → IsPlanned served hand → answers served (turns_in hand) ≡ begun_of served hand ++ rest_of served hand
 hand-answers served Empty planned = answers-none served
 hand-answers served (Decided turn) planned = answers-one served turn
@@ -165,7 +165,7 @@ hand-answers served (Tiles turn plan done) planned =
     joined : (h a b l : List ℕ) → h ++ ((a ++ b) ++ l) ≡ (h ++ a) ++ (b ++ l)
     joined h a b l = simp (append_assoc, append-nil) refl
 
--- less was sent
+-- fewer bytes were sent
 less-broken : (served : Served) (reason : Type 0) (bytes sent out : List ℕ) → IsCutOff served bytes (AreLastBytes served reason) (sent ++ out) → IsBroken served reason bytes sent
 less-broken served reason bytes sent out cut = record { whole = sent ++ out; unsent = out; front = refl; allowed = cut }
 

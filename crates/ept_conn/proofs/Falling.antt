@@ -1,4 +1,4 @@
--- Each thing that is done leaves less to do.
+-- Each step leaves less to do.
 use Rattle.std.proofs.Common.{◌≡◌, ◌∙◌, ◌+◌, ◌-◌, ◌*◌, ◌^◌, ◌<◌, ◌≤◌, ◌⊎◌, inl, inr, ℕ, List, [], ◌∷◌, ◌++◌, length, take, Bool, true, false, ◌||◌, if◌then◌else◌, Option, Some, None, refl, sym, ap, subst, arith, length-append, mul_comm}
 use Rattle.std.specs.Prelude.{nat_lt, nat_le}
 use Rattle.std.proofs.lemmas.Nat.{mul-add-lt}
@@ -180,7 +180,7 @@ fed-falls old new piece read (inr is) =
     (subst (λ (n : ℕ). rank_of (Some fault.Memory) (stage old) old.out < n) (sym (rests old.fault (stage old) old.out parts.0.going parts.0.out_is))
     (ranks-fall (Some fault.Memory) (stage old) (stage old) old.out (λ going. absurd cc)))
 
--- ---- the link failed, and what was to be sent is out
+-- ---- the link failed, or all bytes to be sent were sent
 
 some-rank : (f : Option Fault) (left : ℕ) (out : List ℕ) → (f ≡ None) ⊎ (0 < length out) → 0 < rank_of f left out
 some-rank None left out why = omega arith

@@ -1,4 +1,4 @@
--- How many files a session has got, call by call.
+-- How often a session has called `get`, call by call.
 use Rattle.std.proofs.Common.{◌≡◌, ◌∙◌, ◌+◌, ◌<◌, ◌≤◌, ◌⊎◌, inl, inr, ℕ, List, [], ◌∷◌, ◌++◌, length, Bool, true, false, if◌then◌else◌, Option, Some, None, refl, sym, ap, subst, arith, zero-add, append_assoc, append-nil}
 use Rattle.std.specs.Prelude.{nat_lt, sum, ⊤}
 use Rattle.std.specs.List.{AllZip}
@@ -28,7 +28,7 @@ use Rattle.ept_conn.proofs.Wanting.{work-parts, read-parts}
 
 -- ---- one request
 
--- a fact of the points that are wanted, if there are some
+-- a fact of the wanted points, if there are any
 abbrev OfWanted : (Wanted → Type 0) → Option Wanted → Type 0
 OfWanted fact None = ⊤
 OfWanted fact (Some points) = fact points
@@ -63,7 +63,7 @@ request-gets files (asked.Select area first second sift) before now count gets t
     points-gets files (record { area = area; first = first; second = second }) before now count gets takes
 request-gets files (asked.Refuse status) before now count gets takes = omega (arith, gets)
 
--- what was got for the tiles of a plan that are done, and what the others take
+-- the calls for the finished tiles of a plan, and those that its other tiles take
 plan-taken : (files : Files) (turn : Turn) (plan : Plan) (done count : ℕ) → IsPlanOfTurn files turn plan → RequestTakes files turn.asked count → (k : ℕ) × HasTaken files turn plan done k × (k + length plan.tiles ≤ count + done)
 plan-taken files turn plan done count is takes =
     let points : Wanted = record { area = plan.area; first = is.first; second = is.second } in
@@ -77,7 +77,7 @@ plan-taken files turn plan done count is takes =
 
 -- ---- sums
 
--- counts of the one turns and of the others
+-- the counts of the first turns and of the others
 record AreSplit (files : Files) (one other : List Turn) (counts : List ℕ) : Type 0 where
   left : List ℕ
   right : List ℕ
@@ -103,7 +103,7 @@ one-count files turn (n ∷ (m ∷ counts)) all = absurd all.1
 
 -- ---- all the turns of bytes
 
--- where what is in hand takes as much as was got for it and besides, all turns of the bytes take what was got
+-- if all calls for what is in hand are within what it takes, all calls are within what all turns of the bytes take
 finish : (files : Files) (first : ℕ) (bytes more : List ℕ) (state : State) (now next : ℕ) → HasGot files first bytes state now → ((counts : List ℕ) → AllZip (Takes files) (turns_in state.hand) counts → (k : ℕ) × HandHasTaken files state.hand k × (next + k ≤ now + sum counts)) → GetsWithin files first (bytes ++ more) next
 finish files first bytes more state now next g hand = λ turns counts due all.
     let others = some-due (fed state.held more) in
@@ -155,12 +155,12 @@ got-stopped files first bytes old now next g gets =
 
 -- ---- one piece of work
 
--- a turn stands behind those that are answered, whatever comes behind
+-- a turn comes next after those with a response, whatever bytes follow
 abbrev Stands : List ℕ → Held → List Turn → Turn → Type 0
 Stands bytes held before turn =
     (more : List ℕ) (others : List Turn) → AreDue (fed held more) others → AreDue (fed fresh (bytes ++ more)) (before ++ (turn ∷ others))
 
--- it was answered, and took what was got for it
+-- it has its response, and took the calls made for it
 answered : (files : Files) (first : ℕ) (bytes : List ℕ) (before : List Turn) (turn : Turn) (new : State) (next : ℕ) → Stands bytes new.held before turn → new.hand ≡ Empty → ((counts : List ℕ) (count : ℕ) → AllZip (Takes files) before counts → RequestTakes files turn.asked count → next ≤ first + sum counts + count) → HasGot files first bytes new next
 answered files first bytes before turn new next stands hand few = record {
   before = before ++ turn ∷ [];
@@ -190,7 +190,7 @@ stays files first bytes before turn new hand next stands is one plan within few 
       few = λ counts count all taken. few counts count all (subst (λ (h : Hand). HandHasTaken files h count) is taken);
     }
 
--- the turn that was decided stands so, and so does the one in hand
+-- the turn that was decided comes next, and so does the one in hand
 decided-stands : (files : Files) (first : ℕ) (bytes : List ℕ) (old new : State) (now : ℕ) (g : HasGot files first bytes old now) → old.hand ≡ Empty → (step : Decides old new) → Stands bytes new.held g.before step.turn
 decided-stands files first bytes old new now g empty step = λ more others due.
     let H : Hand → Type 0 = λ h. AreDue (fed fresh (bytes ++ more)) (g.before ++ (turns_in h ++ (step.turn ∷ others))) in
@@ -202,7 +202,7 @@ hand-stands files first bytes old new now hand turn g is one same =
     let stands : Stands bytes old.held g.before turn = λ more others due. subst (λ (ts : List Turn). AreDue (fed fresh (bytes ++ more)) (g.before ++ (ts ++ others))) in_hand (g.turns more others due) in
     subst (λ (h : Held). Stands bytes h g.before turn) (sym same) stands
 
--- what was got before, by what was in hand
+-- the calls made before, by what is in hand
 few-in : (files : Files) (first : ℕ) (bytes : List ℕ) (old : State) (now : ℕ) (hand : Hand) (g : HasGot files first bytes old now) → old.hand ≡ hand → (counts : List ℕ) (count : ℕ) → AllZip (Takes files) g.before counts → HandHasTaken files hand count → now ≤ first + sum counts + count
 few-in files first bytes old now hand g is counts count all taken =
     g.few counts count all (subst (λ (h : Hand). HandHasTaken files h count) (sym is) taken)
@@ -217,7 +217,7 @@ decided-got files first bytes before turn (asked.Select area one two sift) new n
 decided-got files first bytes before turn (asked.Refuse status) new next stands hand few =
     answered files first bytes before turn new next stands hand (λ counts count all takes. (let most = few counts all in omega (arith, most)))
 
--- a plan was made for the turn, or all that it asks for was got
+-- a plan was made for the turn, or all that it asks for was fetched
 begun-got : (files : Files) (first : ℕ) (bytes : List ℕ) (before : List Turn) (turn : Turn) (new : State) (hand : Hand) (now next : ℕ) → Stands bytes new.held before turn → new.hand ≡ hand → IsBegun turn hand → HasPlanOf files hand → GetsFor turn.asked now next (Some files) → ((counts : List ℕ) → AllZip (Takes files) before counts → now ≤ first + sum counts) → HasGot files first bytes new next
 begun-got files first bytes before turn new Empty now next stands is begun plan gets few =
     answered files first bytes before turn new next stands is (λ counts count all takes. (
@@ -235,7 +235,7 @@ begun-got files first bytes before turn new (Tiles other plan done) now next sta
     let is_count = taken.count_is in
     omega (arith, most, more, is_count)))
 
--- one tile more was got
+-- one more tile was fetched
 tile-got : (files : Files) (first : ℕ) (bytes : List ℕ) (before : List Turn) (turn : Turn) (plan : Plan) (done : ℕ) (new : State) (now next : ℕ) (b : Bool) → nat_lt (done + 1) (length plan.tiles) ≡ b → Stands bytes new.held before turn → new.hand ≡ hand_at turn plan (done + 1) → IsPlanOfTurn files turn plan → done < length plan.tiles → next ≤ now + 1 → ((counts : List ℕ) (count : ℕ) → AllZip (Takes files) before counts → HasTaken files turn plan done count → now ≤ first + sum counts + count) → HasGot files first bytes new next
 tile-got files first bytes before turn plan done new now next true more stands hand has within one few =
     let there : hand_at turn plan (done + 1) ≡ Tiles turn plan (done + 1) = ap (λ (b : Bool). if b then Tiles turn plan (done + 1) else Empty) more in

@@ -24,7 +24,7 @@ unshifted : (o : Option ℕ) → o ≡ option_map (λ n. n + 0) o
 unshifted None = refl
 unshifted (Some n) = ap Some (omega arith)
 
--- where no mark begins, the first end is that of the bytes behind
+-- if no mark begins here, the first end is that of the bytes after this one
 pub end-later : (bytes : List ℕ) (at : ℕ) → at < length bytes → is_mark (drop at bytes) ≡ false → option_map (λ n. n + at) (head_end (drop at bytes)) ≡ option_map (λ n. n + (at + 1)) (head_end (drop (at + 1) bytes))
 end-later bytes at inside other =
     let first = drop_more bytes at 0 inside in
@@ -43,7 +43,7 @@ none-parts false (Some n) h = absurd cc
 mark-part : (b k : ℕ) (bytes : List ℕ) → 3 ≤ k → is_mark (b ∷ take k bytes) ≡ is_mark (b ∷ bytes)
 mark-part b k bytes room = ap (λ (w : List ℕ). pointwise nat_eq (codes "\r\n\r\n") (b ∷ w)) (take-take 3 k bytes room)
 
--- so a search may go on three bytes before the end of a part that has none
+-- so a search may resume three bytes before the end of a part without one
 pub end-behind : (n m : ℕ) (bytes : List ℕ) → m ≡ n + 3 → m ≤ length bytes → head_end (take m bytes) ≡ None → head_end bytes ≡ option_map (λ k. k + n) (head_end (drop n bytes))
 end-behind zero m bytes is within none = unshifted (head_end bytes)
 end-behind (suc n) zero bytes is within none = absurd (omega arith)
@@ -66,7 +66,7 @@ end-start (suc (suc zero)) at bytes is within none =
     unshifted (head_end bytes) ∙ ap (λ k. option_map (λ n. n + k) (head_end (drop k bytes))) (sym here)
 end-start (suc (suc (suc n))) at bytes is within none = end-behind at (suc (suc (suc n))) bytes (omega arith) within none
 
--- ---- the part that is looked at
+-- ---- the part that is searched
 
 pub window-within : (n searched : ℕ) (bytes window : List ℕ) → window ≡ take n bytes → searched ≤ length bytes → searched ≤ n → searched ≤ length window
 window-within n searched bytes window is within near = omega (arith, ap length is ∙ length-take n bytes)
@@ -166,7 +166,7 @@ end-least (b ∷ bytes) len h = by_mark (λ m is. end-least bytes m is) (is_mark
         let behind = some-later (head_end bytes) len (sym (cond-false _ _ _ is) ∙ h) in
         omega (arith, later behind.0 behind.1, behind.2)
 
--- a mark is seen in any four bytes, whatever comes behind
+-- a mark is seen in any four bytes, whatever bytes follow
 mark-more : (bytes more : List ℕ) → 4 ≤ length bytes → is_mark (bytes ++ more) ≡ is_mark bytes
 mark-more bytes more long = ap (pointwise nat_eq (codes "\r\n\r\n")) (take-append-le 4 bytes more long)
 
@@ -185,7 +185,7 @@ end-more (b ∷ bytes) more len h = by_mark (λ m is. end-more bytes more m is) 
         let long : 4 ≤ length (b ∷ bytes) = omega (arith, least, within) in
         cond-false _ _ _ (mark-more (b ∷ bytes) more long ∙ is) ∙ ap (option_map (λ n. n + 1)) (later behind.0 behind.1) ∙ ap Some behind.2
 
--- what is looked at of more bytes begins as before
+-- the part that is searched of more bytes begins as before
 window-more : (n : ℕ) (bytes more : List ℕ) → (rest : List ℕ) × (take n (bytes ++ more) ≡ take n bytes ++ rest)
 window-more zero bytes more = ([], refl)
 window-more (suc n) [] more = (take (suc n) more, refl)

@@ -1,4 +1,4 @@
--- What a session has sent over any list of calls.
+-- What a session has sent after any list of calls.
 use Rattle.std.proofs.Common.{◌≡◌, ◌≤◌, ◌∙◌, ◌⊎◌, inl, inr, ℕ, List, [], ◌∷◌, ◌++◌, length, arith, Bool, true, false, ◌||◌, Option, Some, None, IfSome, refl, sym, ap, subst, append_assoc, append-nil}
 use Rattle.std.specs.Prelude.{⊤}
 use Rattle.ept_base.specs.Files.{Files}
@@ -34,7 +34,7 @@ use Rattle.ept_conn.proofs.Wanting.{IsAtRest, work-parts, read-parts, write-some
 
 -- ---- no file that is served is damaged
 
--- the points that are wanted can be asked for
+-- the wanted points may be asked for
 abbrev MayBeWanted : Option Wanted → Type 0
 MayBeWanted None = ⊤
 MayBeWanted (Some points) = IsOrdered points.area × (points.first ≤ points.second)
@@ -246,7 +246,7 @@ reads-has served reason bytes sent last has is =
     let rest = (read-parts last is).0 in
     rest-answers served bytes sent last rest (at-has served reason bytes sent last None rest.going has)
 
--- where each plan and each tile is there, no connection ends for a damaged file
+-- if each plan and each tile is there, no connection ends for a damaged file
 cut-undamaged : (files : Files) (served : Served) (found : QueryFile) (others : List Turn) (words : List ℕ) → IsServed files served → EndsBefore served found others words → ⊥
 cut-undamaged files served found [] words is ends = ends
 cut-undamaged files served found (turn ∷ others) words is ends =
@@ -256,7 +256,7 @@ cut-undamaged files served found (turn ∷ others) words is ends =
 pub never-damaged : (files : Files) (served : Served) (reason closed : Type 0) (bytes text : List ℕ) (found : QueryFile) → IsServed files served → IsEnd served reason closed bytes text (end.Damaged found) → ⊥
 never-damaged files served reason closed bytes text found is cut = cut-undamaged files served found cut.others cut.words is cut.fits
 
--- which fault an end stands for
+-- the fault that an end means
 ended-by : (f : Option Fault) (hand : Hand) (due : Bool) (over : Type 0) (x : Fault) (ends : End) → ¬ (end_of x ≡ end.Closed) → ((y : Fault) → end_of x ≡ end_of y → y ≡ x) → ends ≡ end_of x → ((y : Fault) × (f ≡ Some y) × (ends ≡ end_of y)) ⊎ ((ends ≡ end.Closed) × over) → f ≡ Some x
 ended-by f hand due over x ends open_still one is (inl cause) = cause.1 ∙ ap Some (one cause.0 (sym is ∙ cause.2))
 ended-by f hand due over x ends open_still one is (inr closed) = absurd (open_still (sym is ∙ closed.0))

@@ -15,7 +15,7 @@ last-word fault.Store out not is = is
 last-word (fault.Damaged found) out not is = is
 last-word fault.Memory out not is = inr is
 
--- a session that stops for a cause ends for that, or for want of memory
+-- a session that stops for a cause ends for that cause, or because memory ran out
 abbrev pub StopsFor : Fault → Option Fault → Type 0
 StopsFor cause ended = (other : Fault) → ended ≡ Some other → (other ≡ cause) ⊎ (other ≡ fault.Memory)
 
@@ -27,7 +27,7 @@ stops-as P cause (Some other) stops one two = either (stops other refl)
     either (inl is) = subst P (sym is) one
     either (inr is) = subst P (sym is) two
 
--- so where it ends for this cause, which is not want of memory, that is why it stopped
+-- so if it ends for a cause other than memory, that is why it stopped
 pub stops-alone : (cause fixed : Fault) (ended : Option Fault) → StopsFor cause ended → ¬ (fixed ≡ fault.Memory) → ended ≡ Some fixed → cause ≡ fixed
 stops-alone cause fixed ended stops not is = either (stops fixed is)
   where
@@ -35,7 +35,7 @@ stops-alone cause fixed ended stops not is = either (stops fixed is)
     either (inl same) = sym same
     either (inr memory) = absurd (not memory)
 
--- it stops with its status, with the turn in hand given up
+-- it stops with its status, and drops the turn in hand
 pub stops-with : (turn : Turn) (new : State) (cause : Fault) → new.hand ≡ Empty → IfSome new.fault (λ other. IsLastWord other new.out) → StopsFor cause new.fault → ¬ (cause ≡ fault.Link) → IfSome new.fault (Stops (Decided turn) new)
 stops-with turn new cause empty words stops not = by new.fault words stops
   where

@@ -1,4 +1,4 @@
--- A folder has one plan of a query, and one part of a tile.
+-- A folder has one plan for a query, and one part for a tile.
 use Rattle.std.proofs.Common.{◌≡◌, ◌∙◌, ◌<◌, ◌≤◌, ◌⊎◌, ◌↔◌, inl, inr, ℕ, zero, suc, List, [], ◌∷◌, length, get_or, Some, None, refl, sym, ap, subst, arith}
 use Rattle.std.specs.Prelude.{Contains}
 use Rattle.std.proofs.lemmas.List.{get_or_default}
@@ -63,7 +63,7 @@ plan-once IsAsked a b up up' p q =
     (λ z m. contains-member b z ((q z.0 z.1).1 ((p z.0 z.1).0 (member-contains a z m))))
     (λ z m. contains-member a z ((p z.0 z.1).1 ((q z.0 z.1).0 (member-contains b z m))))
 
--- a query has one plan at most
+-- a query has at most one plan
 pub one-plan : (files : Files) (area : Box3) (first second : ℕ) (a b : Plan) → IsPlanFor area first second a files → IsPlanFor area first second b files → a.tiles ≡ b.tiles
 one-plan files area first second a b is other =
     let one = is.tiles other.build.0 other.build.1 in
@@ -75,7 +75,7 @@ plan-open files served area first second plan is ordered depths has =
     let there = is.plan area first second ordered depths in
     there.1 ∙ ap Some (one-plan files area first second (record { area = area; tiles = there.0 }) plan there.2 has)
 
--- where each plan and each tile is there, what is sent is so of what is there
+-- `IsServed` is a special case of `IsSentOf`
 pub served-sent : (files : Files) (served : Served) → IsServed files served → IsSentOf files served
 served-sent files served (inl shut) = inl shut
 served-sent files served (inr is) = inr (record {
@@ -90,7 +90,7 @@ pub plan-served : (files : Files) (served : Served) (area : Box3) (first second 
 plan-served files served area first second plan (inl shut) ordered depths has = absurd (shut.done has.done)
 plan-served files served area first second plan (inr is) ordered depths has = is.plan area first second plan ordered depths has
 
--- the folder of which it is sent
+-- the folder of which it is sent is this one
 pub folder-is : (files : Files) (served : Served) → IsSentOf files served → served.files ≡ files
 folder-is files served (inl shut) = shut.folder
 folder-is files served (inr is) = is.folder

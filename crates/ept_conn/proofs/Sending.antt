@@ -33,7 +33,7 @@ use Rattle.ept_conn.specs.History.{Goes}
 use Rattle.ept_conn.proofs.Wanted.{wants-answer}
 use Rattle.ept_conn.proofs.TurnLemmas.{next-due, next-asked}
 
--- ---- answers and chunks
+-- ---- responses and chunks
 
 pub answers-append : (served : Served) (xs ys : List Turn) → answers served (xs ++ ys) ≡ answers served xs ++ answers served ys
 unfolding answers
@@ -67,7 +67,7 @@ last-here (t ∷ before) behind turn last = ap (λ (b : Bool). t.last || b) (las
     or-true true = refl
     or-true false = refl
 
--- a connection that goes on behind a turn has given fewer than 65,536
+-- if a turn is not the last one, more turns may follow
 first-room : (behind : ℕ) (bytes : List ℕ) (f : Front) (turn : Turn) → IsFirst behind bytes f turn → turn.last ≡ false → 0 < behind
 first-room behind bytes Short turn first on = absurd first
 first-room behind bytes Long turn first on =
@@ -94,7 +94,7 @@ all-push P (y ∷ ys) x all one = (all.0, all-push P ys x all.1 one)
 none-needed : (files : Files) (turn : Turn) (a : Asked) → turn.asked ≡ a → IsWholeFor files (wanted a) → IsWhole files turn
 none-needed files turn a is whole = subst (λ (b : Asked). IsWholeFor files (wanted b)) (sym is) whole
 
--- ---- a session that goes on
+-- ---- a session that continues
 
 pub start-goes : (served : Served) → Goes served [] [] started
 start-goes served = record {
@@ -131,18 +131,18 @@ fed-goes served bytes sent (b ∷ piece) state g = record {
   written = g.written;
 }
 
--- what was sent, where nothing is to be sent now
+-- what was sent, if nothing is to be sent now
 pub sent-before : (served : Served) (bytes sent : List ℕ) (old : State) (hand : Hand) (g : Goes served bytes sent old) → old.out ≡ [] → old.hand ≡ hand → sent ≡ answers served g.before ++ begun_of served hand
 sent-before served bytes sent old hand g out is =
     sym (append-nil sent) ∙ ap (λ (w : List ℕ). sent ++ w) (sym out) ∙ g.written ∙ ap (λ (h : Hand). answers served g.before ++ begun_of served h) is
 
--- a turn stands behind those that are answered, whatever comes behind
+-- a turn comes next after those with a response, whatever bytes follow
 record Stands (bytes : List ℕ) (held : Held) (before : List Turn) (turn : Turn) : Type 0 where
   turns : (more : List ℕ) (others : List Turn) → AreDue (fed held more) others → AreDue (fed fresh (bytes ++ more)) (before ++ (turn ∷ others))
   over : held.ended ≡ true → has_last (before ++ turn ∷ []) ≡ true
   room : held.ended ≡ false → held.given < 65536
 
--- it was answered
+-- it has its response now
 answered : (served : Served) (bytes sent : List ℕ) (before : List Turn) (turn : Turn) (new : State) → AllByRecursion (IsWhole served.files) before → IsWhole served.files turn → Stands bytes new.held before turn → new.hand ≡ Empty → sent ++ new.out ≡ answers served before ++ answer served turn → Goes served bytes sent new
 answered served bytes sent before turn new whole one stands hand written = record {
   before = before ++ turn ∷ [];
@@ -177,7 +177,7 @@ stays served bytes sent before turn new hand whole has_plan tiles stands is one 
       written = written ∙ sym (ap (λ (h : Hand). answers served before ++ begun_of served h) is);
     }
 
--- the turn that was decided stands so
+-- the turn that was decided comes next
 decided-stands : (served : Served) (bytes sent : List ℕ) (old new : State) (turn : Turn) (g : Goes served bytes sent old) → old.hand ≡ Empty → IsNext old.held turn new.held → Stands bytes new.held g.before turn
 decided-stands served bytes sent old new turn g empty next = record {
   turns = λ more others due.
@@ -209,7 +209,7 @@ decided-goes served bytes sent before new turn (asked.Refuse status) whole is ma
     let text : new.out ≡ answer served turn = out ∙ sym (ap (λ (a : Asked). answer_to served a turn.last) is) in
     answered served bytes sent before turn new whole (none-needed served.files turn (asked.Refuse status) is tt) stands hand (ap (λ (w : List ℕ). sent ++ w) text ∙ ap (λ (w : List ℕ). w ++ answer served turn) all)
 
--- the whole answer was put out at once
+-- the whole response was output at once
 answered-at-once : (served : Served) (bytes sent : List ℕ) (before : List Turn) (turn : Turn) (a : Asked) (new : State) → AllByRecursion (IsWhole served.files) before → IsWholeFor served.files (wanted a) → turn.asked ≡ a → Stands bytes new.held before turn → sent ≡ answers served before → new.hand ≡ Empty → new.out ≡ answer_to served a turn.last → Goes served bytes sent new
 answered-at-once served bytes sent before turn a new whole one is stands all hand out =
     let text : new.out ≡ answer served turn = out ∙ sym (ap (λ (b : Asked). answer_to served b turn.last) is) in
@@ -223,7 +223,7 @@ more-at turn plan done is = (ap (λ (b : Bool). if b then Tiles turn plan done e
 over-at : (turn : Turn) (plan : Plan) (done : ℕ) → nat_lt done (length plan.tiles) ≡ false → (hand_at turn plan done ≡ Empty) × (end_at plan done ≡ last_chunk)
 over-at turn plan done is = (ap (λ (b : Bool). if b then Tiles turn plan done else Empty) is, ap (λ (b : Bool). if b then [] else last_chunk) is)
 
--- one tile more is there
+-- one more tile is there
 is-below : (n m : ℕ) → nat_lt n m ≡ true → n < m
 is-below n m is = grind (arith, is)
 
@@ -240,7 +240,7 @@ tiles-more files plan done tiles next at within = either (nat_lt at done) refl
     either true below = tiles at (is-below at done below)
     either false over = subst (IsThere files plan) (is-last at done over within) next
 
--- where the turn does not stay in hand, its plan has no tile
+-- if the turn does not stay in hand, its plan has no tile
 no-tiles : (turn : Turn) (plan : Plan) → hand_at turn plan 0 ≡ Empty → length plan.tiles ≡ 0
 no-tiles turn plan is = either (nat_lt 0 (length plan.tiles)) refl
   where
@@ -260,7 +260,7 @@ begun-whole : (files : Files) (turn : Turn) (a : Asked) (points : Wanted) (new :
 begun-whole files turn a points new wants made empty =
     subst (IsWholeFor files) (sym wants) (at-once-whole files turn points new (subst (λ (w : Option Wanted). HasPlanIfOpen files turn w new) wants made) empty)
 
--- what was put out of a query, tile by tile
+-- the part of a query's response that was output, tile by tile
 shifted : (a h c k : List ℕ) → (a ++ (h ++ c)) ++ (k ++ []) ≡ a ++ (h ++ (c ++ k))
 shifted a h c k = simp (append_assoc, append-nil) refl
 

@@ -1,4 +1,4 @@
--- The turns of bytes do not depend on how they are cut, and are one list.
+-- The turns of bytes do not depend on how the bytes are cut, and bytes have one list of turns.
 use Rattle.std.proofs.Common.{◌≡◌, ℕ, zero, suc, ◌+◌, ◌-◌, ◌<◌, List, [], ◌∷◌, ◌++◌, take, drop, Bool, true, false, ◌||◌, ◌==◌, if◌then◌else◌, MatchBool, refl, sym, ap, subst, ◌∙◌, arith, append_assoc, append-nil, inl, inr}
 use Rattle.std.proofs.lemmas.List.{take-append-le, drop-append-le}
 use Rattle.ept_http.specs.declared.asked.Asked.{Asked}
@@ -13,9 +13,9 @@ use Rattle.ept_conn.specs.Judged.{turn_of, turns_from, due, due_of, Gives}
 use Rattle.ept_conn.specs.Calls.{Call, Fed, Gave, Waited, Runs, all_fed, all_given}
 use Rattle.ept_conn.proofs.HeadEnds.{front-kept, front-within}
 
--- ---- one turn, whatever comes behind
+-- ---- one turn, whatever bytes follow
 
--- the turn of a head stays, and the bytes behind it grow
+-- the turn of a head stays, and the bytes after it grow
 first-turn : (behind : ℕ) (bytes more : List ℕ) (f : Front) (turn : Turn) (turns : List Turn) → front (bytes ++ more) ≡ f → front bytes ≡ f → IsFirst behind bytes f turn → MatchBool turn.last (turns ≡ []) (AreTurns behind (behind_front f bytes ++ more) turns) → AreFrom behind (AreTurns behind) (bytes ++ more) f (turn ∷ turns)
 first-turn behind bytes more Short turn turns now before first others = absurd first
 first-turn behind bytes more Long turn turns now before first others =
@@ -28,7 +28,7 @@ first-turn behind bytes more (Whole len) turn turns now before first others =
       subst (λ (rest : List ℕ). MatchBool turn.last (turns ≡ []) (AreTurns behind rest turns)) (sym (drop-append-le len bytes more within)) others,
     )
 
--- what is due afterwards, as the turns behind the first one
+-- the turns due afterwards are those after the first one
 rest-due : (k given later : ℕ) (last ended : Bool) (bytes next held more : List ℕ) (turns : List Turn) → ended ≡ last → later ≡ given + 1 → held ≡ (if last then bytes else next) → AreTurns (if ended then 0 else k - later) (held ++ more) turns → MatchBool last (turns ≡ []) (AreTurns (k - given - 1) (next ++ more) turns)
 rest-due k given later true true bytes next held more turns same up is due = due
 rest-due k given later true false bytes next held more turns same up is due = absurd cc

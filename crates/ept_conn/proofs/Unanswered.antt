@@ -1,4 +1,4 @@
--- A session wants to work only where some turn is not wholly answered.
+-- A session wants to work only if some turn has no whole response.
 use Rattle.std.proofs.Common.{◌≡◌, ◌∙◌, ◌-◌, ◌<◌, ℕ, zero, suc, List, [], ◌∷◌, ◌++◌, length, Bool, true, false, ◌&&◌, not, Option, Some, None, if◌then◌else◌, refl, sym, ap, subst, arith, append_assoc, append-nil, length-append}
 use Rattle.ept_hier.specs.Hierarchy.{Node}
 use Rattle.ept_http.specs.declared.asked.Asked.{Asked}
@@ -22,7 +22,7 @@ use Rattle.ept_conn.proofs.Wanting.{IsAtWork, work-parts}
 use Rattle.ept_conn.proofs.Sending.{answers-append, answers-one, sent-before}
 use Rattle.ept_conn.proofs.Ending.{hand-answers}
 
--- ---- an answer has bytes
+-- ---- a response has bytes
 
 longer : (a b : List ℕ) → 0 < length a → 0 < length (a ++ b)
 longer a b some = omega (arith, length-append a b)
@@ -82,7 +82,7 @@ due-first held turns due room are =
     left-some true given on below = absurd cc
     left-some false given on below = omega arith
 
--- ---- some bytes of its answer were not sent
+-- ---- some bytes of its response were not sent
 
 module _ (served : Served) (bytes sent : List ℕ) (last : State) where
   fresh-due : (turns : List Turn) → AreDue (fed fresh (bytes ++ [])) turns → AreDue (fed fresh bytes) turns

@@ -1,4 +1,4 @@
--- Where a plan is there, or a tile, nothing that it needs is damaged.
+-- If a plan or a tile is there, nothing that it needs is damaged.
 use Rattle.std.proofs.Common.{ℕ, List, Option, Some, refl, subst}
 use Rattle.ept_base.specs.Files.{Files}
 use Rattle.ept_point.specs.declared.point.Point.{Point}

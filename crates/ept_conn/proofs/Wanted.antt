@@ -1,4 +1,4 @@
--- The answer to a turn that asks for points.
+-- The response to a turn that asks for points.
 use Rattle.std.proofs.Common.{◌≡◌, ℕ, List, [], Bool, Option, Some, None, ap}
 use Rattle.ept_space.specs.declared.box3.Box3.{Box3}
 use Rattle.ept_http.specs.declared.asked.Asked.{Asked}
@@ -6,7 +6,7 @@ use Rattle.ept_http.specs.declared.asked.Asked.TheVariants.{File, Query, Select,
 use Rattle.ept_conn.specs.Answers.{Served, query_answer, answer_to}
 use Rattle.ept_conn.specs.Wanted.{Wanted, Wants}
 
--- the answer to what is wanted
+-- the response to what is wanted
 answer_of : Served → Asked → Bool → Option Wanted → List ℕ
 answer_of served a last None = []
 answer_of served a last (Some points) =

@@ -1,4 +1,4 @@
--- What a connection sends: the answers to its turns, one after the other (RFC 9112, sections 4, 6 and 7.1).
+-- What a connection sends: the responses to its turns, one after the other (RFC 9112, sections 4, 6 and 7.1).
 use Rattle.std.specs.Prelude.{◌≡◌, ℕ, List, [], ◌∷◌, ◌++◌, Bool, false, length, nat_eq, Option, Some, None, codes}
 use Rattle.std.specs.List.{flat_map, ends_with}
 use Rattle.std.specs.Fmt.{digits}
@@ -14,22 +14,23 @@ use Rattle.ept_conn.specs.Held.{fresh, fed}
 use Rattle.ept_conn.specs.Turns.{AreDue}
 use Rattle.ept_conn.specs.Wanted.{kept_of}
 
--- what is sent of a folder: the content of a file, where there is one; the tiles of the plan of a query, where there are queries; and of a tile the packed points in an area
+-- what is sent of a folder. `file` is the content of a file, if there is one. `plan` is the tiles of the plan of a
+-- query, if there are queries. `part` is the packed points of a tile in an area.
 pub record Served : Type 0 where
   pub files : Files
   pub file : List ℕ → Option (List ℕ)
   pub plan : Box3 → ℕ → ℕ → Option (List Node)
   pub part : Box3 → Node → List ℕ
 
--- an answer without a body
+-- a response without a body
 abbrev pub refusal : ℕ → Bool → List ℕ
 refusal status last = head_text (head.Refusal status last)
 
--- a name is that of a JSON text
+-- whether this is the name of a JSON text
 abbrev pub is_json : List ℕ → Bool
 is_json name = ends_with nat_eq name (codes ".json")
 
--- the answer that a file is: its head and its content, or status 404 where there is none
+-- the response with a file: its head and its content, or status 404 if there is no file
 abbrev pub file_answer : Bool → Bool → Option (List ℕ) → List ℕ
 file_answer json last None = refusal 404 last
 file_answer json last (Some content) = head_text (head.File json (length content) last) ++ content
@@ -43,17 +44,18 @@ chunk (b ∷ bytes) = digits 16 false (length (b ∷ bytes)) ++ (codes "\r\n" ++
 abbrev pub last_chunk : List ℕ
 last_chunk = codes "0\r\n\r\n"
 
--- of each tile one chunk, with what is kept for a request of its points in the area
+-- one chunk for each tile, with what the request keeps of the tile's points in the area
 abbrev pub chunks : Served → Asked → Box3 → List Node → List ℕ
 chunks served request area nodes = flat_map (λ (node : Node). chunk (kept_of request (served.part area node))) nodes
 
--- the answer to a query or a selection: its head and the chunks of the tiles of its plan, or status 404 where there are no queries
+-- the response to a query or a selection. It is a head and the chunks of the tiles of the plan, or status 404 if there
+-- are no queries.
 abbrev pub query_answer : Served → Asked → Box3 → Bool → Option (List Node) → List ℕ
 query_answer served request area last None = refusal 404 last
 query_answer served request area last (Some nodes) =
     head_text (head.Query last) ++ (chunks served request area nodes ++ last_chunk)
 
--- the answer to what is asked for
+-- the response to what is asked for
 abbrev pub answer_to : Served → Asked → Bool → List ℕ
 answer_to served (asked.File name) last = file_answer (is_json name) last (served.file name)
 answer_to served (asked.Query area first second) last =
@@ -68,7 +70,7 @@ answer served turn = answer_to served turn.asked turn.last
 unfoldable pub answers : Served → List Turn → List ℕ
 answers served turns = flat_map (answer served) turns
 
--- a text is the answers to all the turns of bytes
+-- a text consists of the responses to all the turns of bytes
 pub record AreAnswers (served : Served) (bytes text : List ℕ) : Type 0 where
   pub turns : List Turn
   pub due : AreDue (fed fresh bytes) turns

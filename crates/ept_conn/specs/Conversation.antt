@@ -12,7 +12,7 @@ use Rattle.ept_conn.specs.State.{State}
 use Rattle.ept_conn.specs.History.{Has}
 use Rattle.ept_conn.specs.Serving.{Passes}
 
--- from old to new the session was fed what was read, and what it gave was written
+-- from `old` to `new` the session was fed what was read, and what it output was written
 pub record Converses (served : Served) (reason : Type 0) (old : Wire) (state : State) (new : Wire) : Type 0 where
   pub bytes : List ℕ
   pub text : List ℕ
@@ -20,7 +20,7 @@ pub record Converses (served : Served) (reason : Type 0) (old : Wire) (state : S
   pub has : Has served reason bytes text state
   pub closed : state.closed ≡ true → new.left ≡ []
 
--- whatever a session and its link did since a start, they did afterwards
+-- what is known of a session and its link since a start is still known afterwards
 abbrev pub GoesOn : Served → Type 0 → Type 0 → State → State → Wire → Wire → Type 0
 GoesOn served reason wider old new now next =
     (start : Wire) → Converses served reason start old now → Converses served wider start new next
@@ -29,25 +29,25 @@ GoesOn served reason wider old new now next =
 abbrev pub HasFailed : State → State → Type 0
 HasFailed old new = new ≡ record old { hand = Empty; out = []; fault = Some Link }
 
--- this end was fixed before, or the device's count rose
+-- this end was fixed before, or the device's count of faults rose
 pub record HasCauseFor (cause : Fault) (old new : State) (before now : ℕ) : Type 0 where
   pub later : before ≤ now
   pub rose : new.fault ≡ Some cause → (old.fault ≡ Some cause) ⊎ Rose before now
 
 -- ---- how much is left to do, however much the peer sends
 
--- how many pieces may still be read before a turn is due
+-- the number of pieces that may still be read before a turn is due
 abbrev pub room_of : Bool → List ℕ → ℕ
 room_of true bytes = 0
 room_of false bytes = 8193 - length bytes
 
--- how many plans or tiles are still to be got for the turn in hand
+-- at most this number of plans or tiles is still to be fetched for the turn in hand
 abbrev pub tasks_of : Hand → ℕ
 tasks_of Empty = 0
 tasks_of (Decided turn) = 2 ^ 64
 tasks_of (Tiles turn plan done) = length plan.tiles - done
 
--- a number of three digits, of which the last two are below these
+-- a number of three digits, of which the last two are at most `tasks` and `rooms`
 abbrev pub weighed : ℕ → ℕ → ℕ → ℕ → ℕ → ℕ
 weighed tasks rooms a b c = (a * (tasks + 1) + b) * (rooms + 1) + c
 

@@ -1,4 +1,4 @@
--- What has been sent where a connection ends, for the bytes that came.
+-- What has been sent when a connection ends, for the bytes that came.
 use Rattle.std.specs.Prelude.{◌≡◌, ◌⊎◌, ℕ, ◌≤◌, List, [], ◌∷◌, ◌++◌, Bool, true, length, take, Some, ⊤}
 use Rattle.std.specs.List.{AllByRecursion, list_any}
 use Rattle.ept_base.specs.Files.{Files}
@@ -26,11 +26,12 @@ use Rattle.ept_conn.specs.Whole.{IsWhole, HasAnswered, HasTiles, HasTilesDone}
 abbrev pub has_last : List Turn → Bool
 has_last turns = list_any (λ (turn : Turn). turn.last) turns
 
--- bytes have a last turn
+-- the turns of bytes include a last one
 abbrev pub EndsItself : List ℕ → Type 0
 EndsItself bytes = (turns : List Turn) × AreDue (fed fresh bytes) turns × (has_last turns ≡ true)
 
--- the answers to the first turns of bytes, for which no file is missing or damaged, and words behind them that fit the other turns
+-- the responses to the first turns of bytes, and then words that fit the other turns. No file that the first turns need
+-- is missing or damaged.
 pub record IsCutOff (served : Served) (bytes : List ℕ) (Fits : List Turn → List ℕ → Type 0) (text : List ℕ) : Type 0 where
   pub before : List Turn
   pub others : List Turn
@@ -40,7 +41,7 @@ pub record IsCutOff (served : Served) (bytes : List ℕ) (Fits : List Turn → L
   pub fits : Fits others words
   pub text_is : text ≡ answers served before ++ words
 
--- the head of the answer to a query or a selection, and whole chunks of it without the last chunk
+-- the head of the response to a query or a selection, and whole chunks of it without the last chunk
 pub record IsQueryFront (served : Served) (turn : Turn) (text : List ℕ) : Type 0 where
   pub area : Box3
   pub first : ℕ
@@ -54,16 +55,17 @@ pub record IsQueryFront (served : Served) (turn : Turn) (text : List ℕ) : Type
   pub within : done ≤ length nodes
   pub text_is : text ≡ head_text (head.Query turn.last) ++ chunks served turn.asked area (take done nodes)
 
--- the same of the first of some turns
+-- the same for the first of some turns
 abbrev pub IsFrontOf : Served → List Turn → List ℕ → Type 0
 IsFrontOf served [] text = ⊥
 IsFrontOf served (turn ∷ turns) text = IsQueryFront served turn text
 
--- the last words for a cause: none, a status, or the front of the answer to a query
+-- the last words for a cause: no words, a status, or a prefix of the response to a query
 abbrev pub AreLastWords : Served → Fault → List Turn → List ℕ → Type 0
 AreLastWords served cause others text = IsLastWord cause text ⊎ IsFrontOf served others text
 
--- What was put out of the answer to a turn where its next piece of work needs a damaged file, and a last word: with the head of an answer none, and else status 503.
+-- The output part of the response to a turn whose next piece of work needs a damaged file, and a last word. The word is
+-- empty if the head of the response was output, and status 503 otherwise.
 pub record IsCutByDamage (served : Served) (found : QueryFile) (turn : Turn) (words : List ℕ) : Type 0 where
   pub hand : Hand
   pub of_turn : turns_in hand ≡ turn ∷ []
@@ -86,15 +88,15 @@ abbrev pub IsFirstDamaged : Files → List Turn → Type 0
 IsFirstDamaged files [] = ⊥
 IsFirstDamaged files (turn ∷ turns) = (found : QueryFile) × IsDamagedFor turn.asked found files
 
--- the words of a status: 503 only for this reason, or where a file is damaged that the first of some turns needs; and 507
+-- the words of a status: 503 for this reason or if the first of some turns needs a damaged file, or 507
 abbrev pub IsStatus : Served → Type 0 → List Turn → List ℕ → Type 0
 IsStatus served reason others text = ((reason ⊎ IsFirstDamaged served.files others) × (text ≡ refusal 503 true)) ⊎ (text ≡ refusal 507 true)
 
--- what may stand behind the answers to the first turns: nothing, the front of the answer to the next one, or a status
+-- what may follow the responses to the first turns: nothing, a prefix of the response to the next one, or a status
 abbrev pub AreLastBytes : Served → Type 0 → List Turn → List ℕ → Type 0
 AreLastBytes served reason others words = (words ≡ []) ⊎ (IsFrontOf served others words ⊎ IsStatus served reason others words)
 
--- a front of the answers to the first turns of bytes, and of what may stand behind them
+-- a prefix of the responses to the first turns of bytes and of what may follow them
 pub record IsBroken (served : Served) (reason : Type 0) (bytes text : List ℕ) : Type 0 where
   pub whole : List ℕ
   pub unsent : List ℕ
@@ -103,7 +105,7 @@ pub record IsBroken (served : Served) (reason : Type 0) (bytes text : List ℕ) 
 
 -- ---- at the end
 
--- what has been sent at each end; `closed` says that the input has ended
+-- what has been sent at each end; `closed` means that the input has ended
 abbrev pub IsEnd : Served → Type 0 → Type 0 → List ℕ → List ℕ → End → Type 0
 IsEnd served reason closed bytes text end.Closed = HasAnswered served bytes text × (closed ⊎ EndsItself bytes)
 IsEnd served reason closed bytes text end.LinkFault = IsBroken served reason bytes text
@@ -111,7 +113,8 @@ IsEnd served reason closed bytes text end.StoreFault = reason × IsCutOff served
 IsEnd served reason closed bytes text (end.Damaged file) = IsCutOff served bytes (EndsBefore served file) text
 IsEnd served reason closed bytes text end.Memory = IsCutOff served bytes (AreLastWords served fault.Memory) text
 
--- The end of the input, or of the last turn, or for want of memory; a fault of the link or of the store only where that device failed.
+-- A good end comes with the end of the input, with the last turn, or because memory runs out. A fault of the link or of
+-- the store is reported only if that device failed.
 abbrev pub EndsWell : End → Type 0 → Type 0 → Type 0
 EndsWell end.Closed link store = ⊤
 EndsWell end.LinkFault link store = link

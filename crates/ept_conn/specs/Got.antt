@@ -1,4 +1,4 @@
--- How many files are got for the turns of a connection. The folder may hold anything.
+-- How often `get` is called for the turns of a connection. The folder may hold anything.
 use Rattle.std.specs.Prelude.{◌≡◌, ℕ, ◌+◌, ◌≤◌, List, ◌++◌, length, sum, Option, Some, None, ⊤}
 use Rattle.std.specs.List.{AllZip}
 use Rattle.ept_base.specs.Files.{Files}
@@ -23,7 +23,8 @@ use Rattle.ept_conn.specs.Works.{HasPlanOf}
 
 -- ---- what turns take
 
--- points take two files, one for each hierarchy file that is needed and one for each tile of their plan, of which any lists that have these are as long
+-- points take two calls, one for each hierarchy file that is needed, and one for each tile of their plan. All lists of
+-- these have the same length.
 pub record PointsTake (files : Files) (points : Wanted) (count : ℕ) : Type 0 where
   pub needed : List VoxelKey
   pub planned : List VoxelKey
@@ -31,7 +32,7 @@ pub record PointsTake (files : Files) (points : Wanted) (count : ℕ) : Type 0 w
   pub others : (kept : Kept) → IsBuiltWith files kept → HasPlanned (search_of kept points.area points.first points.second) files planned
   pub count_is : count ≡ 2 + length needed + length planned
 
--- a file takes two, and a refusal none
+-- a file takes two calls, and a refusal takes none
 abbrev pub RequestTakes : Files → Asked → ℕ → Type 0
 RequestTakes files (File name) count = count ≡ 2
 RequestTakes files (Query area first second) count = PointsTake files (record { area = area; first = first; second = second }) count
@@ -41,12 +42,12 @@ RequestTakes files (Refuse status) count = count ≡ 0
 abbrev pub Takes : Files → Turn → ℕ → Type 0
 Takes files turn count = RequestTakes files turn.asked count
 
--- no more files were got than all the turns of bytes take together
+-- there were no more calls than all the turns of bytes take together
 abbrev pub GetsWithin : Files → ℕ → List ℕ → ℕ → Type 0
 GetsWithin files first bytes now =
     (turns : List Turn) (counts : List ℕ) → AreDue (fed fresh bytes) turns → AllZip (Takes files) turns counts → now ≤ first + sum counts
 
--- so it is with the bytes that were read in a call
+-- the same for the bytes that were read in a call
 pub record GetsForRead (files : Files) (before now : ℕ) (old new : Wire) : Type 0 where
   pub bytes : List ℕ
   pub taken : new.taken ≡ old.taken ++ bytes
@@ -54,7 +55,7 @@ pub record GetsForRead (files : Files) (before now : ℕ) (old new : Wire) : Typ
 
 -- ---- so far
 
--- so many files were got for the tiles that are done of a plan in hand, and for the plan
+-- `count` calls were made for the plan in hand and for its tiles that are done
 pub record HasTaken (files : Files) (turn : Turn) (plan : Plan) (done count : ℕ) : Type 0 where
   pub first : ℕ
   pub second : ℕ
@@ -63,7 +64,7 @@ pub record HasTaken (files : Files) (turn : Turn) (plan : Plan) (done count : �
   pub each : (kept : Kept) → IsBuiltWith files kept → HasNeeded (search_of kept plan.area first second) files needed
   pub count_is : count ≡ 2 + length needed + done
 
--- so many were got for what is in hand
+-- `count` calls were made for what is in hand
 abbrev pub HandHasTaken : Files → Hand → ℕ → Type 0
 HandHasTaken files Empty count = count ≡ 0
 HandHasTaken files (Decided turn) count = count ≡ 0
@@ -75,7 +76,8 @@ IsWithinPlan Empty = ⊤
 IsWithinPlan (Decided turn) = ⊤
 IsWithinPlan (Tiles turn plan done) = done ≤ length plan.tiles
 
--- Of a session that goes on: no more files were got than the turns take that are answered, and what is in hand.
+-- For a session that continues: there were no more calls than those for the turns with a response and for what is in
+-- hand.
 pub record HasGot (files : Files) (first : ℕ) (bytes : List ℕ) (state : State) (now : ℕ) : Type 0 where
   pub before : List Turn
   pub turns : (more : List ℕ) (others : List Turn) → AreDue (fed state.held more) others → AreDue (fed fresh (bytes ++ more)) (before ++ (turns_in state.hand ++ others))
@@ -83,18 +85,18 @@ pub record HasGot (files : Files) (first : ℕ) (bytes : List ℕ) (state : Stat
   pub within : IsWithinPlan state.hand
   pub few : (counts : List ℕ) (count : ℕ) → AllZip (Takes files) before counts → HandHasTaken files state.hand count → now ≤ first + sum counts + count
 
--- of one that ends early, than all the turns of its bytes take
+-- for a session that ends early: no more calls than all the turns of its bytes take
 abbrev pub HasGotFor : Files → ℕ → List ℕ → State → ℕ → Option Fault → Type 0
 HasGotFor files first bytes state now None = HasGot files first bytes state now
 HasGotFor files first bytes state now (Some fault) = GetsWithin files first bytes now
 
--- since a start, what was read was fed, and so many files were got
+-- since a start, what was read was fed, and `get` was called no more often than this
 pub record GetsSince (files : Files) (first : ℕ) (old : Wire) (state : State) (now : ℕ) (new : Wire) : Type 0 where
   pub bytes : List ℕ
   pub taken : new.taken ≡ old.taken ++ bytes
   pub got : HasGotFor files first bytes state now state.fault
 
--- whatever was got since a start, it was so afterwards
+-- what is known of the calls since a start is still known afterwards
 abbrev pub GetsOn : Files → ℕ → ℕ → ℕ → State → State → Wire → Wire → Type 0
 GetsOn files first before now old new wire next =
     (start : Wire) → GetsSince files first start old before wire → GetsSince files first start new now next

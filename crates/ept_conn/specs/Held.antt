@@ -1,27 +1,27 @@
--- What is seen of a connection.
+-- The visible state of a connection.
 use Rattle.std.specs.Prelude.{◌≡◌, ℕ, ◌-◌, ◌<◌, ◌≤◌, List, [], ◌++◌, Bool, true, false, ◌&&◌, not, if◌then◌else◌, length, take, None}
 use Rattle.ept_conn.specs.HeadEnd.{head_end, Front, Whole, Long, Short, front}
 
--- the bytes held, how many turns were given, and whether the last was
+-- the bytes held, the number of turns returned, and whether the last one was
 pub record Held : Type 0 where
   pub bytes : List ℕ
   pub given : ℕ
   pub ended : Bool
 
--- nothing is held, and no turn was given
+-- nothing is held, and no turn was returned
 abbrev pub fresh : Held
 fresh = record { bytes = []; given = 0; ended = false }
 
--- the same with these bytes behind those held
+-- the same with these bytes appended to those held
 abbrev pub fed : Held → List ℕ → Held
 fed held piece = record held { bytes = held.bytes ++ piece }
 
--- how many turns may still come: 65,536 in all, and none once the last was given
+-- the number of turns that may still come: 65,536 in all, and none once the last was returned
 abbrev pub turns_left : Held → ℕ
 turns_left held = if held.ended then 0 else 65536 - held.given
 
--- so many of the first bytes were searched, and no head ends in them; and a connection that goes on has
--- given fewer than 65,536 turns
+-- the first `searched` bytes were searched, and no head ends in them; a connection that has not ended has returned
+-- fewer than 65,536 turns
 pub record IsSearched (bytes : List ℕ) (searched given : ℕ) (ended : Bool) : Type 0 where
   pub within : searched ≤ length bytes
   pub near : searched ≤ 8192

@@ -1,4 +1,4 @@
--- What a session has sent of what it was fed.
+-- What a session has sent for the bytes that it was fed.
 use Rattle.std.specs.Prelude.{◌≡◌, ℕ, ◌<◌, List, [], ◌∷◌, ◌++◌, true, false, length, Option, Some, None}
 use Rattle.std.specs.List.{AllByRecursion}
 use Rattle.ept_conn.specs.declared.turn.Turn.{Turn}
@@ -13,7 +13,9 @@ use Rattle.ept_conn.specs.Works.{IsPlanned, HasPlanOf}
 use Rattle.ept_conn.specs.Whole.{IsWhole, HasTilesDone}
 use Rattle.ept_conn.specs.Ends.{has_last, IsCutOff, AreLastWords, EndsBefore, IsBroken}
 
--- Of a session that goes on: the turns of the bytes fed are those that are answered, the one in hand, and those that are due of what is held, whatever comes behind. What was sent and is to be sent now are the answers to the first, and what was put out of the answer in hand. No file that was needed for these is missing or damaged.
+-- A session that continues. The turns of the bytes fed are those with a response, the turn in hand, and those due in
+-- the bytes held, whatever bytes follow. What was sent and is to be sent now is the responses to the first, and the
+-- output part of the response in hand. No file that was needed for these is missing or damaged.
 pub record Goes (served : Served) (bytes sent : List ℕ) (state : State) : Type 0 where
   pub before : List Turn
   pub turns : (more : List ℕ) (others : List Turn) → AreDue (fed state.held more) others → AreDue (fed fresh (bytes ++ more)) (before ++ (turns_in state.hand ++ others))
@@ -26,7 +28,7 @@ pub record Goes (served : Served) (bytes sent : List ℕ) (state : State) : Type
   pub whole : AllByRecursion (IsWhole served.files) before
   pub written : sent ++ state.out ≡ answers served before ++ begun_of served state.hand
 
--- What a session has sent of the bytes fed; status 503 is sent only for this reason, or for a file that is damaged.
+-- What a session has sent for the bytes fed. Status 503 is sent only for this reason, or for a damaged file.
 abbrev pub HasFor : Served → Type 0 → List ℕ → List ℕ → State → Option Fault → Type 0
 HasFor served reason bytes sent state None = Goes served bytes sent state
 HasFor served reason bytes sent state (Some Link) = (state.out ≡ []) × IsBroken served reason bytes sent
@@ -39,7 +41,7 @@ HasFor served reason bytes sent state (Some Memory) =
 abbrev pub Has : Served → Type 0 → List ℕ → List ℕ → State → Type 0
 Has served reason bytes sent state = HasFor served reason bytes sent state state.fault
 
--- some turn of the bytes fed is not wholly answered: of its answer, or before it, some bytes were not sent
+-- some turn of the bytes fed has no whole response: some bytes of its response, or of an earlier one, were not sent
 pub record IsUnanswered (served : Served) (bytes sent : List ℕ) : Type 0 where
   pub before : List Turn
   pub turn : Turn
@@ -49,7 +51,8 @@ pub record IsUnanswered (served : Served) (bytes sent : List ℕ) : Type 0 where
   pub some : 0 < length unsent
   pub text_is : answers served (before ++ turn ∷ []) ≡ sent ++ unsent
 
--- Owed is what is to be sent now, the rest of the answer in hand, and the answers to the turns that are due of what is held, with more behind it.
+-- What is owed is what is to be sent now, the rest of the response in hand, and the responses to the turns due. These
+-- are the turns of the bytes held and of `more` after them.
 pub record IsOwed (served : Served) (state : State) (more text : List ℕ) : Type 0 where
   pub turns : List Turn
   pub due : AreDue (fed state.held more) turns

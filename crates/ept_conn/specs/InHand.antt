@@ -1,4 +1,4 @@
--- The turn that a session has in hand, and how far its answer has come.
+-- The turn that a session has in hand, and how far its response has come.
 use Rattle.std.specs.Prelude.{ℕ, List, [], ◌∷◌, ◌++◌, take, drop}
 use Rattle.ept_http.specs.declared.answer.HeadKind.TheVariants as head
 use Rattle.ept_http.specs.AnswerHead.{head_text}
@@ -13,13 +13,13 @@ turns_in Empty = []
 turns_in (Decided turn) = turn ∷ []
 turns_in (Tiles turn plan done) = turn ∷ []
 
--- what was put out of its answer
+-- the part of its response that was output
 abbrev pub begun_of : Served → Hand → List ℕ
 begun_of served Empty = []
 begun_of served (Decided turn) = []
 begun_of served (Tiles turn plan done) = head_text (head.Query turn.last) ++ chunks served turn.asked plan.area (take done plan.tiles)
 
--- the rest of its answer
+-- the rest of its response
 abbrev pub rest_of : Served → Hand → List ℕ
 rest_of served Empty = []
 rest_of served (Decided turn) = answer served turn

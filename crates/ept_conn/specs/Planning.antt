@@ -1,4 +1,4 @@
--- What the plan of a query tells.
+-- Why the plan of a query is refused.
 use Rattle.std.specs.Prelude.{ℕ, ⊤, Option}
 use Rattle.ept_base.specs.Files.{Files, Tells}
 use Rattle.ept_space.specs.declared.box3.Box3.{Box3}
@@ -9,14 +9,14 @@ use Rattle.ept_conn.specs.declared.end.Fault.{Fault}
 use Rattle.ept_conn.specs.declared.end.Fault.TheVariants.{Link, Store, Damaged, Memory}
 use Rattle.ept_conn.specs.Works.{IsDamagedFor}
 
--- why there is no plan
+-- what is known when a plan is refused for this cause
 abbrev pub Refuses : Box3 → ℕ → ℕ → Option Files → Fault → Type 0
 Refuses area first second files Link = ⊥
 Refuses area first second files Store = ⊤
 Refuses area first second files (Damaged found) = Tells (IsDamagedFor (Query area first second) found) files
 Refuses area first second files Memory = ⊤
 
--- as what a session tells that a query is refused
+-- the cause that a session reports if a query is refused
 abbrev pub told_as : QueryError → Fault
 told_as error.NotComplete = Memory
 told_as error.StoreFault = Store

@@ -7,7 +7,8 @@ use Rattle.ept_conn.specs.Answers.{Served}
 use Rattle.ept_conn.specs.Whole.{HasAnswered}
 use Rattle.ept_conn.specs.Ends.{IsEnd}
 
--- Of a read, by how many bytes had been taken and written before it: what had been written in the call is the answers to the bytes read in the call before.
+-- A read, given by the number of bytes taken and written before it. What the call had written before the read is the
+-- responses to the bytes that it had read before.
 pub record IsAnsweredAt (served : Served) (old : Wire) (bytes text : List ℕ) (at : ℕ × ℕ) : Type 0 where
   pub came : ℕ
   pub went : ℕ
@@ -17,7 +18,7 @@ pub record IsAnsweredAt (served : Served) (old : Wire) (bytes text : List ℕ) (
   pub written : at.1 ≡ length old.written + went
   pub answers : HasAnswered served (take came bytes) (take went text)
 
--- in the call these bytes were read and this text was written, and no turn waited for bytes behind it
+-- the call read these bytes and wrote this text, and no turn waited for bytes that follow it
 pub record Passes (served : Served) (old new : Wire) (bytes text : List ℕ) : Type 0 where
   pub taken : new.taken ≡ old.taken ++ bytes
   pub written : new.written ≡ old.written ++ text
@@ -25,7 +26,7 @@ pub record Passes (served : Served) (old new : Wire) (bytes text : List ℕ) : T
   pub reads_are : new.reads ≡ old.reads ++ reads
   pub each : AllByRecursion (IsAnsweredAt served old bytes text) reads
 
--- the connection was served up to its end; status 503 was sent only for this reason
+-- the connection was served to its end; status 503 was sent only for this reason, or for a damaged file
 pub record IsServedOver (served : Served) (reason : Type 0) (ends : End) (old new : Wire) : Type 0 where
   pub bytes : List ℕ
   pub text : List ℕ

@@ -1,5 +1,5 @@
--- Lists of calls of a session over one folder, and what holds of each list. Each statement stands on the contract of a
--- function of `laws`.
+-- Lists of calls of a session over one folder, and what holds for each list. Each statement is a clause of a function
+-- of `laws`.
 use Rattle.std.specs.Prelude.{◌≡◌, ◌⊎◌, ℕ, List, [], ◌∷◌, ◌++◌, true, IfSome, Some, None}
 use Rattle.ept_base.specs.Causes.{Rose}
 use Rattle.ept_base.specs.Files.{Files}
@@ -16,7 +16,7 @@ use Rattle.ept_conn.specs.Whole.{HasAnswered, HasFound}
 use Rattle.ept_conn.specs.Ends.{IsEnd}
 use Rattle.ept_conn.specs.History.{Has, IsOwed, IsUnanswered}
 
--- bytes were fed, or the end of the input; work was done; bytes were sent; or the link failed
+-- bytes or the end of the input were fed, work was done, bytes were sent, or the link failed
 pub data SessionCall : Type 0 where
   Fed : (piece : List ℕ) → SessionCall
   Worked : SessionCall
@@ -42,7 +42,7 @@ Leads files served reason old (Sent bytes) new =
 Leads files served reason old Failed new =
     ((want_of old ≡ want.Read) ⊎ (want_of old ≡ want.Write)) × (new ≡ record old { hand = Empty; out = []; fault = Some fault.Link })
 
--- so does a list of calls
+-- a list of calls leads from one state to another
 abbrev pub LeadsOn : Files → Served → Type 0 → State → List SessionCall → State → Type 0
 LeadsOn files served reason old [] last = last ≡ old
 LeadsOn files served reason old (call ∷ calls) last =
@@ -63,27 +63,29 @@ sent_by (Worked ∷ calls) = sent_by calls
 sent_by (Sent bytes ∷ calls) = bytes ++ sent_by calls
 sent_by (Failed ∷ calls) = sent_by calls
 
--- Over any list of calls on one folder what was sent and is to be sent now is what may be sent of the bytes fed; status 503 is only where the store's count of faults rose from what it was before.
+-- After any list of calls on one folder, the bytes sent and to be sent now are what may be sent for the bytes fed.
+-- Status 503 is sent only if the store's count of faults rose from `before` to `now`, or for a damaged file.
 abbrev pub SendsAnswers : Type 0
 SendsAnswers =
     (files : Files) (served : Served) (before now : ℕ) → IsSentOf files served → (calls : List SessionCall) (last : State) → LeadsOn files served (Rose before now) started calls last → Has served (Rose before now) (fed_by calls) (sent_by calls) last
 
--- where the session is at its end, it is what is sent at that end
+-- if the session is at its end, it is what is sent at that end
 abbrev pub EndsSo : Type 0
 EndsSo =
     (served : Served) (before now : ℕ) (bytes sent : List ℕ) (last : State) → Has served (Rose before now) bytes sent last → (ends : End) → want_of last ≡ want.End ends → IsEnd served (Rose before now) (last.closed ≡ true) bytes sent ends
 
--- where it wants to read, each turn of the bytes fed is answered, and all of that was sent
+-- if it wants to read, each turn of the bytes fed has its response, and all of these were sent
 abbrev pub ReadsAnswered : Type 0
 ReadsAnswered =
     (served : Served) (before now : ℕ) (bytes sent : List ℕ) (last : State) → Has served (Rose before now) bytes sent last → want_of last ≡ want.Read → HasAnswered served bytes sent
 
--- where it wants to work, some turn of the bytes fed is not wholly answered
+-- if it wants to work, some turn of the bytes fed has no whole response
 abbrev pub WorksUnanswered : Type 0
 WorksUnanswered =
     (served : Served) (before now : ℕ) (bytes sent : List ℕ) (last : State) → Has served (Rose before now) bytes sent last → want_of last ≡ want.Work → IsUnanswered served bytes sent
 
--- of a session that goes on, what was sent and what is owed are the answers to all the bytes fed, whatever comes behind
+-- for a session that continues, what was sent and what is owed are the responses to all the bytes fed, whatever bytes
+-- follow
 abbrev pub OwesTheRest : Type 0
 OwesTheRest =
     (served : Served) (before now : ℕ) (bytes sent : List ℕ) (last : State) → Has served (Rose before now) bytes sent last → last.fault ≡ None → (more text : List ℕ) → IsOwed served last more text → AreAnswers served (bytes ++ more) (sent ++ text)

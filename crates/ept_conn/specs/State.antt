@@ -1,4 +1,4 @@
--- What is seen of a session.
+-- The visible state of a session.
 use Rattle.std.specs.Prelude.{ℕ, ◌<◌, ⊤, List, [], ◌∷◌, Bool, true, false, ◌||◌, length, Option, Some, None}
 use Rattle.ept_http.specs.Answers.{MayBeAsked}
 use Rattle.ept_conn.specs.declared.hand.Hand.{Hand}
@@ -11,7 +11,9 @@ use Rattle.ept_conn.specs.declared.end.Want.{Want}
 use Rattle.ept_conn.specs.declared.end.Want.TheVariants as want
 use Rattle.ept_conn.specs.Held.{Held, fresh, fed, has_turn}
 
--- the bytes that were fed and that no turn has taken, with the number of turns decided and whether the last was; whether the end of the input was fed; the turn in hand; the bytes to be sent now; and why the session ends early, where it does
+-- `held` is the bytes fed that no turn has taken, the number of turns decided, and whether the last one was. `closed`
+-- is true once the end of the input was fed. `hand` is the turn in hand, and `out` the bytes to be sent now. `fault` is
+-- why the session ends early, if it does.
 pub record State : Type 0 where
   pub held : Held
   pub closed : Bool
@@ -23,7 +25,7 @@ pub record State : Type 0 where
 abbrev pub started : State
 started = record { held = fresh; closed = false; hand = Empty; out = []; fault = None }
 
--- a turn that is in hand can be answered, and there is a next tile
+-- what a turn in hand asks for may be asked for, and a plan in hand has a next tile
 abbrev pub IsFit : Hand → Type 0
 IsFit Empty = ⊤
 IsFit (Decided turn) = MayBeAsked turn.asked
@@ -37,7 +39,8 @@ end_of fault.Store = end.StoreFault
 end_of (fault.Damaged file) = end.Damaged file
 end_of fault.Memory = end.Memory
 
--- of a session that goes on, with nothing to be sent: it has work where a turn is in hand or due; else it is at its end once the last turn was decided or the end of the input was fed
+-- If no end is fixed and nothing is to be sent, a session wants to work if a turn is in hand or due. Otherwise it is at
+-- its end if the last turn was decided or the end of the input was fed. Otherwise it wants to read.
 abbrev pub wants_on : Hand → Bool → Bool → Want
 wants_on (Decided turn) due over = want.Work
 wants_on (Tiles turn plan done) due over = want.Work
@@ -50,14 +53,14 @@ wants (b ∷ out) fault hand due over = want.Write
 wants [] (Some fault) hand due over = want.End (end_of fault)
 wants [] None hand due over = wants_on hand due over
 
--- what a session wants: that its bytes be sent, where there are some; else its end, where one is fixed
+-- what a session wants: that its bytes be sent, if there are any; otherwise its end, if one is fixed
 unfoldable pub want_of : State → Want
 want_of state =
     wants state.out state.fault state.hand (has_turn state.held) (state.closed || state.held.ended)
 
 -- ---- what is fed
 
--- bytes are kept; no bytes are the end of the input
+-- bytes are kept; an empty piece is the end of the input
 abbrev pub feeds : State → List ℕ → State
 feeds state [] = record state { closed = true }
 feeds state (b ∷ piece) = record state { held = fed state.held (b ∷ piece) }

@@ -1,4 +1,4 @@
--- What the answers to turns need of a folder, which may lack files or have damaged ones.
+-- What the responses to turns need of a folder, which may lack files or have damaged ones.
 use Rattle.std.specs.Prelude.{◌≡◌, ◌⊎◌, ℕ, ◌<◌, ⊤, List, length, Option, Some, None}
 use Rattle.std.specs.List.{AllByRecursion}
 use Rattle.ept_base.specs.Files.{Files}
@@ -17,28 +17,28 @@ use Rattle.ept_conn.specs.Answers.{Served, answers}
 use Rattle.ept_conn.specs.State.{State}
 use Rattle.ept_conn.specs.Works.{hand_at}
 
--- ---- for a whole answer
+-- ---- for a whole response
 
--- the first tiles of a plan are there, so many
+-- the first `count` tiles of a plan are there
 abbrev pub HasTiles : Files → Plan → ℕ → Type 0
 HasTiles files plan count = (at : ℕ) → at < count → (points : List Point) × HasTile files (node_at plan at).0 (node_at plan at).1 points
 
--- the plan of the points that are wanted is there, and each of its tiles
+-- the plan of the wanted points is there, and each of its tiles
 pub record HasPoints (files : Files) (points : Wanted) : Type 0 where
   pub plan : Plan
   pub is_plan : IsPlanFor points.area points.first points.second plan files
   pub tiles : HasTiles files plan (length plan.tiles)
 
--- nothing is needed where no points are wanted, or where the done gate is not open
+-- nothing is needed if no points are wanted or the done gate is not open
 abbrev pub IsWholeFor : Files → Option Wanted → Type 0
 IsWholeFor files None = ⊤
 IsWholeFor files (Some points) = (¬ IsDone files) ⊎ HasPoints files points
 
--- no file that the answer to a turn needs is missing or damaged
+-- no file that the response to a turn needs is missing or damaged
 abbrev pub IsWhole : Files → Turn → Type 0
 IsWhole files turn = IsWholeFor files (wanted turn.asked)
 
--- a text is the answers to all the turns of bytes, and no file that these need is missing or damaged
+-- a text consists of the responses to all the turns of bytes, and no file that these need is missing or damaged
 pub record HasAnswered (served : Served) (bytes text : List ℕ) : Type 0 where
   pub turns : List Turn
   pub due : AreDue (fed fresh bytes) turns
@@ -47,7 +47,7 @@ pub record HasAnswered (served : Served) (bytes text : List ℕ) : Type 0 where
 
 -- ---- for one piece of work
 
--- the plan of the points that are wanted was made, and the turn stays in hand while it has tiles
+-- the plan of the wanted points was made, and the turn stays in hand while it has tiles
 pub record HasMadePlan (files : Files) (turn : Turn) (points : Wanted) (new : State) : Type 0 where
   pub plan : Plan
   pub is_plan : IsPlanFor points.area points.first points.second plan files
@@ -57,13 +57,14 @@ abbrev pub HasPlanIfOpen : Files → Turn → Option Wanted → State → Type 0
 HasPlanIfOpen files turn None new = ⊤
 HasPlanIfOpen files turn (Some points) new = (¬ IsDone files) ⊎ HasMadePlan files turn points new
 
--- what a piece of work needs is there: the plan of the points that the turn asks for, where the done gate is open; or the next tile
+-- What a piece of work needs is there. It is the plan of the points that the turn asks for, if the done gate is open,
+-- or the next tile.
 abbrev pub HasFound : Files → Hand → State → Type 0
 HasFound files Empty new = ⊤
 HasFound files (Decided turn) new = HasPlanIfOpen files turn (wanted turn.asked) new
 HasFound files (Tiles turn plan done) new = (points : List Point) × HasTile files (node_at plan done).0 (node_at plan done).1 points
 
--- the tiles of the plan in hand that are done were there
+-- the finished tiles of the plan in hand were there
 abbrev pub HasTilesDone : Files → Hand → Type 0
 HasTilesDone files Empty = ⊤
 HasTilesDone files (Decided turn) = ⊤

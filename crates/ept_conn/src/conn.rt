@@ -12,16 +12,16 @@ use ept_point::Memory;
 use std::alloc::{AllocError, Global};
 use std::marker::Model;
 
-/// The most bytes that are looked at for the end of a head.
+/// The most bytes that are searched for the end of a head.
 const MAX_HEAD: usize = 8192;
 
 /// The most turns of a connection.
 const MAX_TURNS: u32 = 65_536;
 
-/// Why bytes are not taken.
+/// Why `feed` refuses bytes.
 #[derive(Clone, Copy, Debug, PartialEq, Eq)]
 pub enum ConnError {
-    /// The last turn was given out.
+    /// The last turn was returned.
     Closed,
     /// Memory ran out.
     Memory,
@@ -37,12 +37,12 @@ impl From<AllocError> for ConnError {
     }
 }
 
-/// The bytes of a connection that no turn has taken yet. Contracts see them, how many turns were given, and
-/// whether the last was.
+/// The bytes of a connection that no turn has taken yet. Contracts see these bytes, the number of turns returned, and
+/// whether the last turn was.
 #[derive(Debug, Drop)]
 pub struct Conn {
     bytes: Vec<u8>,
-    // How many of the first bytes hold no end of a head.
+    // The number of first bytes that are known to hold no end of a head.
     searched: usize,
     given: u32,
     ended: bool,
@@ -59,7 +59,7 @@ impl Model for Conn {
 }
 
 impl Conn {
-    /// A connection that holds nothing and has given no turn. It takes no memory.
+    /// A connection that holds nothing and has returned no turn. It takes no memory.
     pub fn new(alloc: Global) -> Conn
         ensures { result ≡ fresh }
     {
@@ -71,12 +71,11 @@ impl Conn {
         }
     }
 
-    /// Puts bytes behind those held.
+    /// Appends bytes to those held.
     ///
     /// # Errors
     ///
-    /// `Closed` where the last turn was given out, and `Memory` where memory runs out. Nothing has changed
-    /// then.
+    /// `Closed` if the last turn was returned, and `Memory` if memory runs out. Nothing has changed then.
     pub fn feed(&mut self, piece: &[u8]) -> Result<(), ConnError>
         ensures ok { OnOk result (self.new ≡ fed self.old piece.now) }
         ensures refused { result ≡ Err ConnError.Closed → self.old.ended ≡ true }
@@ -91,14 +90,14 @@ impl Conn {
         Ok(())
     }
 
-    /// Whether the last turn was given out.
+    /// Whether the last turn was returned.
     pub fn is_ended(&self) -> bool
         ensures { result ≡ self.now.ended }
     {
         self.ended
     }
 
-    /// Whether `next` has a turn to give, unless memory runs out.
+    /// Whether `next` has a turn to return, unless memory runs out.
     #[tactic(auto, unfolding(crate::specs::Held::has_turn))]
     pub fn has_turn(&self) -> bool
         ensures { result ≡ has_turn self.now }
@@ -113,13 +112,13 @@ impl Conn {
         find_end(first(&self.bytes, MAX_HEAD), self.searched).is_some()
     }
 
-    /// The next turn: what the head asks for that the bytes held begin with, or status 431 where none ends in
-    /// the first 8,192. None where there are fewer bytes and no head among them, and where the last turn was
-    /// given out.
+    /// Returns the next turn, which is what the head at the start of the bytes held asks for. If no head ends in the
+    /// first 8,192 bytes, it is status 431. Returns no turn if fewer bytes are held and no head ends in them, or if the
+    /// last turn was returned before.
     ///
     /// # Errors
     ///
-    /// Want of memory for the name of a file. Nothing has changed then.
+    /// Memory ran out for the name of a file. Nothing has changed then.
     pub fn next(&mut self) -> Result<Option<Turn>, Memory>
         ensures some { IfOk result (λ given. IfSome given (λ turn. IsNext self.old turn self.new)) }
         ensures none { IfOk result (λ given. IfNone given (IsIdle self.old × (self.new ≡ self.old))) }
@@ -155,7 +154,7 @@ impl Conn {
         Ok(Turn { asked, last })
     }
 
-    // The turn of bytes in which no head ends in time.
+    // The turn of bytes in which no head ends within the limit.
     fn refuse(&mut self) -> Turn
         requires going { self.old.ended ≡ false }
         requires long { front self.old.bytes ≡ Long }
@@ -169,14 +168,14 @@ impl Conn {
         }
     }
 
-    // Whether as many bytes are held as are looked at.
+    // Whether at least 8,192 bytes are held.
     fn is_full(&self) -> bool
         ensures { IsTrue result ↔ (8192 ≤ length self.now.bytes) }
     {
         self.bytes.len() >= MAX_HEAD
     }
 
-    // Where the first head ends in the first 8,192 bytes held.
+    // Finds the end of the first head in the first 8,192 bytes held.
     fn find_head(&mut self) -> Option<usize>
         ensures value { result ≡ head_end (take 8192 self.old.bytes) }
         ensures same { self.new ≡ self.old }

@@ -7,14 +7,14 @@ ghost use Rattle.ept_conn.specs.Works.{last_status};
 
 use ept_query::QueryFile;
 
-/// Why a session ends before its peer has ended or the last turn is answered.
+/// Why a session ends early: before the input has ended, and before the last turn has its response.
 #[derive(Clone, Copy, Debug, PartialEq, Eq)]
 pub enum Fault {
     /// The link failed.
     Link,
     /// The store failed.
     Store,
-    /// A file that a query needs is absent or not of its form.
+    /// A file that a query needs is missing or malformed.
     Damaged { file: QueryFile },
     /// Memory ran out.
     Memory,
@@ -23,13 +23,13 @@ pub enum Fault {
 /// How a connection ended.
 #[derive(Clone, Copy, Debug, PartialEq, Eq)]
 pub enum End {
-    /// The end of the input was met, or the last turn was answered.
+    /// The input has ended, or the last turn has its response.
     Closed,
     /// The link failed: its count of faults rose.
     LinkFault,
     /// The store failed: its count of faults rose.
     StoreFault,
-    /// A file that a query needs is absent or not of its form.
+    /// A file that a query needs is missing or malformed.
     Damaged { file: QueryFile },
     /// Memory ran out.
     Memory,
@@ -61,7 +61,7 @@ impl Fault {
         }
     }
 
-    /// The status with which a session ends for this cause, where nothing of an answer was sent.
+    /// The status with which a session ends for this cause, if nothing of a response was sent.
     pub(crate) fn last_status(&self) -> u16
         ensures status { result ≡ last_status self.now }
         ensures refusal { IsTrue (is_refusal result) }

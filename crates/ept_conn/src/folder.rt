@@ -13,7 +13,7 @@ use ept_base::{GetError, Store};
 use ept_save::{SaveError, is_done};
 use std::alloc::Global;
 
-/// The content of a file, where the done gate is open and there is such a file.
+/// The content of a file, if the done gate is open and the file exists.
 pub fn content_of<T: Store>(
     alloc: Global,
     store: &mut T,
@@ -39,7 +39,7 @@ pub fn content_of<T: Store>(
     }
 }
 
-/// Whether a name is that of a JSON text.
+/// Whether this is the name of a JSON text.
 pub fn is_json(name: &str) -> bool
     ensures { result ≡ is_json name.now }
 {

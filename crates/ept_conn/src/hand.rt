@@ -3,14 +3,14 @@
 use crate::turn::Turn;
 use ept_query::QueryPlan;
 
-/// The turn whose answer is not wholly put out yet.
+/// The turn whose response has not wholly been put into the output yet.
 #[derive(Debug, Drop)]
 pub enum Hand {
-    /// None.
+    /// No turn is in hand.
     Empty,
-    /// A turn that was decided. What it asks for is still to be got.
+    /// A turn that was decided. What it asks for has not been fetched yet.
     Decided(Turn),
-    /// A query or a selection whose head is out. So many tiles of its plan are done, and there are more.
+    /// A query or a selection whose head was output. `done` tiles of its plan are done, and there are more.
     Tiles {
         turn: Turn,
         plan: QueryPlan,

@@ -3,7 +3,7 @@
 ghost use Rattle.std.specs.Prelude.{◌≡◌, ◌≤◌, length, take, drop, vec_len, None};
 ghost use Rattle.ept_conn.specs.HeadEnd.{head_end};
 
-/// Where the first head of these bytes ends. No head ends in the first `searched` of them.
+/// Returns where the first head of these bytes ends. No head ends in the first `searched` of them.
 pub fn find_end(bytes: &[u8], searched: usize) -> Option<usize>
     requires within { searched ≤ length bytes.now }
     requires clear { head_end (take searched bytes.now) ≡ None }
@@ -17,14 +17,14 @@ pub fn find_end(bytes: &[u8], searched: usize) -> Option<usize>
     None
 }
 
-/// The first bytes, so many at most.
+/// The first bytes, at most `most` of them.
 pub fn first(bytes: &[u8], most: usize) -> &[u8]
     ensures { result.now ≡ take most bytes.now }
 {
     &bytes[..most.min(bytes.len())]
 }
 
-/// Takes the first bytes out, so many.
+/// Removes the first `count` bytes.
 pub fn drop_front(bytes: &mut Vec<u8>, count: usize)
     requires { count ≤ vec_len bytes.old }
     ensures { bytes.new.items ≡ drop count bytes.old.items }

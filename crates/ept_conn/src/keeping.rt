@@ -8,7 +8,8 @@ use ept_filter::{SiftError, sift_points};
 use ept_http::Asked;
 use ept_point::Memory;
 
-/// What is kept of packed points: by a selection, of those that pass the dimensions that are asked for; else all.
+/// What a request keeps of packed points. A selection keeps the dimensions asked for of the points that pass. Any other
+/// request keeps all.
 pub fn kept_of(asked: &Asked, points: Vec<u8>) -> Result<Vec<u8>, Memory>
     requires whole { length points.items % packed_width ≡ 0 }
     ensures { IfOk result (λ kept. kept.items ≡ kept_of asked.now points.items) }

@@ -1,4 +1,4 @@
-//! What holds of every list of calls. Each law is the contract of a function that does nothing.
+//! What holds for every list of calls. Each law is the contract of a function that does nothing.
 
 ghost use Rattle.ept_conn.specs.Served.{DecidedIsSent, ServedIsSent, ShutIsServed, CompleteIsServed, QueriesAreAnswered, SelectionsAreAnswered};
 ghost use Rattle.ept_conn.specs.SessionCalls.{SendsAnswers, EndsSo, ReadsAnswered, WorksUnanswered, OwesTheRest};
@@ -7,15 +7,15 @@ ghost use Rattle.ept_conn.specs.Calls.{HoweverCut, AllAreGiven, TurnsAreThere, T
 use ept_filter::sift_law;
 use ept_query::complete_law;
 
-/// Over any list of calls the turns given are, in order, the first turns of all the bytes fed, however these
-/// were cut; where none is due any more they are all of them.
+/// After any list of calls, the turns returned are, in order, the first turns of all the bytes fed. How these were cut
+/// into pieces makes no difference. If no turn is due any more, they are all the turns.
 pub fn turns_however_cut_law()
     ensures cut { HoweverCut }
     ensures all { AllAreGiven }
 {}
 
-/// Bytes have one list of turns, and what any judge of heads makes of them is that list. What a turn
-/// asks for can be answered.
+/// Bytes have exactly one list of turns, and it is the list that any judge of heads gives. A turn asks only for what
+/// may be asked for.
 pub fn one_list_of_turns_law()
     ensures there { TurnsAreThere }
     ensures one { TurnsAreOne }
@@ -24,12 +24,14 @@ pub fn one_list_of_turns_law()
     ensures may_be_asked { TurnsMayBeAsked }
 {}
 
-/// Over any list of calls of a session on one folder, what was sent and is to be sent now is what may be sent
-/// of the bytes fed: the answers to their turns, in order, as far as the session has come; and where it is at
-/// its end, what is sent at that end. There is what is sent of any folder of which it is decided which plans and tiles
-/// it has, as of one whose done gate is not open, and of one that is complete. Of the latter what is sent of a query's
-/// tiles, one after another, is exactly the points of its box in nodes of its depths, and of a selection's tiles exactly
-/// what it keeps of these.
+/// For any list of calls of a session on one folder: What was sent and is to be sent now is what may be sent for the
+/// bytes fed. It is the responses to their turns, in order, as far as the session has come. If the session is at its
+/// end, it is what is sent at that end.
+///
+/// What is sent of a folder exists if it is decided which plans and tiles the folder has. It also exists if the done
+/// gate is not open, and if the folder is complete. For a complete folder, what is sent of a query's tiles is exactly
+/// the points of its box in nodes of its depths. What is sent of a selection's tiles is exactly what it keeps of these
+/// points. Tiles are sent one after another.
 pub fn session_law()
     ensures sends { SendsAnswers }
     ensures ends { EndsSo }

@@ -1,7 +1,7 @@
 //! One connection of the server: the turns of the bytes that come in.
 //!
-//! A turn is the head of a request (RFC 9112) and what it is answered. It does not depend on how the bytes
-//! are cut into pieces.
+//! A turn is what the head of a request (RFC 9112) asks for, and whether the connection ends after its response. How
+//! the bytes are cut into pieces makes no difference.
 
 #![tactic(auto)]
 

@@ -9,7 +9,7 @@ use ept_point::Memory;
 use std::alloc::Global;
 use std::marker::Model;
 
-/// Bytes to be sent, from the first one that was not. Contracts see these.
+/// The bytes still to be sent. Contracts see only these.
 #[derive(Debug, Drop)]
 pub struct Out {
     bytes: Vec<u8>,
@@ -27,7 +27,7 @@ impl Model for Out {
 }
 
 impl Out {
-    /// No bytes. It takes no memory.
+    /// An output without bytes. It takes no memory.
     pub fn new(alloc: Global) -> Out
         ensures { result ≡ [] }
     {
@@ -42,21 +42,21 @@ impl Out {
         *self.bytes.allocator()
     }
 
-    /// The bytes.
+    /// The bytes still to be sent.
     pub fn as_slice(&self) -> &[u8]
         ensures { result.now ≡ self.now }
     {
         &self.bytes[self.sent..]
     }
 
-    /// Whether there are none.
+    /// Whether no bytes are left to be sent.
     pub fn is_empty(&self) -> bool
         ensures { result ≡ (length self.now == 0) }
     {
         self.as_slice().is_empty()
     }
 
-    /// The first bytes were sent, so many. Once all were, none is kept.
+    /// Removes the first `count` bytes, which were sent. Once all bytes are sent, the buffer is cleared.
     pub fn send(&mut self, count: usize)
         requires { count ≤ length self.old }
         ensures { self.new ≡ drop count self.old }
@@ -67,7 +67,7 @@ impl Out {
         }
     }
 
-    /// There are none any more.
+    /// Removes all bytes.
     pub fn clear(&mut self)
         ensures { self.new ≡ [] }
     {
@@ -75,7 +75,7 @@ impl Out {
         self.sent = 0;
     }
 
-    /// Puts bytes behind the others.
+    /// Appends bytes.
     pub fn put(&mut self, bytes: &[u8]) -> Result<(), Memory>
         ensures ok { OnOk result (self.new ≡ self.old ++ bytes.now) }
         ensures unchanged { OnErr result (self.new ≡ self.old) }
@@ -84,7 +84,7 @@ impl Out {
         Ok(())
     }
 
-    /// Puts the head of an answer behind the others.
+    /// Appends the head of a response.
     pub fn put_head(&mut self, kind: &HeadKind) -> Result<(), Memory>
         requires { HasStatus kind.now }
         ensures ok { OnOk result (self.new ≡ self.old ++ head_text kind.now) }
@@ -95,8 +95,8 @@ impl Out {
         self.put(&head[..len])
     }
 
-    /// Puts the answer that a file is behind the others: its head and its content, or status 404 where there
-    /// is none. After want of memory a front of it may stand there.
+    /// Appends the response with a file: its head and its content, or status 404 if there is no file. If memory runs
+    /// out, a prefix of the response may have been appended.
     pub fn put_file(
         &mut self,
         json: bool,
@@ -113,8 +113,8 @@ impl Out {
         self.put(bytes)
     }
 
-    /// Puts bytes behind the others as a chunk (RFC 9112, section 7.1). After want of memory a front of it
-    /// may stand there.
+    /// Appends bytes as a chunk (RFC 9112, section 7.1). If memory runs out, a prefix of the chunk may have been
+    /// appended.
     pub fn put_chunk(&mut self, bytes: &[u8]) -> Result<(), Memory>
         ensures { OnOk result (self.new ≡ self.old ++ chunk bytes.now) }
     {
@@ -129,8 +129,8 @@ impl Out {
         self.put(b"\r\n")
     }
 
-    /// Puts the head of a query's answer behind the others, and behind it the chunk that ends the body, where
-    /// no other chunk comes. After want of memory a front of it may stand there.
+    /// Appends the head of a query's response and, if no other chunk follows, the chunk that ends the body. If memory
+    /// runs out, a prefix of these may have been appended.
     pub fn put_query(&mut self, last: bool, is_empty: bool) -> Result<(), Memory>
         ensures { OnOk result (self.new ≡ self.old ++ (head_text (HeadKind.Query last) ++ (if is_empty then last_chunk else []))) }
     {
@@ -138,8 +138,8 @@ impl Out {
         self.put_end(is_empty)
     }
 
-    /// Puts a chunk behind the others, and behind it the chunk that ends the body, where it is the last.
-    /// After want of memory a front of it may stand there.
+    /// Appends a chunk and, if it is the last one, the chunk that ends the body. If memory runs out, a prefix of these
+    /// may have been appended.
     pub fn put_tile(&mut self, points: &[u8], is_last: bool) -> Result<(), Memory>
         ensures { OnOk result (self.new ≡ self.old ++ (chunk points.now ++ (if is_last then last_chunk else []))) }
     {
@@ -147,7 +147,7 @@ impl Out {
         self.put_end(is_last)
     }
 
-    // Puts the chunk that ends a body behind the others, where it ends.
+    // Appends the chunk that ends a body, if the body ends here.
     fn put_end(&mut self, ends: bool) -> Result<(), Memory>
         ensures { OnOk result (self.new ≡ self.old ++ (if ends then last_chunk else [])) }
     {
@@ -157,8 +157,8 @@ impl Out {
         self.put(b"0\r\n\r\n")
     }
 
-    /// Makes it the head of a refusal behind which the connection ends. Where there is no memory for that, there
-    /// are no bytes.
+    /// Replaces the bytes by the head of a refusal, after which the connection ends. If there is no memory for it, no
+    /// bytes are left.
     pub fn put_last_word(&mut self, status: u16) -> Result<(), Memory>
         requires { IsTrue (is_refusal status) }
         ensures ok { OnOk result (self.new ≡ refusal status true) }

@@ -15,7 +15,7 @@ use ept_query::{QueryError, QueryPlan, query_plan};
 use ept_space::Box3;
 use std::alloc::Global;
 
-/// The plan of a query; none where the done gate is not open.
+/// The plan of a query; no plan if the done gate is not open.
 pub fn plan_of<T: Store>(
     alloc: Global,
     store: &mut T,
@@ -39,8 +39,7 @@ pub fn plan_of<T: Store>(
     }
 }
 
-/// Why a session ends where a query is refused. That the output is not complete, and that a sink failed, is
-/// told by no tile.
+/// Why a session ends if a query is refused. `query_tile` never reports an incomplete output or a failed sink.
 pub fn fault_of(error: QueryError) -> Fault
     ensures { result ≡ told_as error }
 {

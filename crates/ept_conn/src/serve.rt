@@ -20,11 +20,11 @@ use crate::session::Session;
 use ept_base::{Failed, Link, Store};
 use std::alloc::Global;
 
-/// How many bytes one read takes at most.
+/// The most bytes that one read takes.
 const PIECE: usize = 8192;
 
-/// Serves a connection over a link from a folder, turn by turn, up to its end. Nothing is read while a turn
-/// waits for its answer.
+/// Serves a connection over a link from a folder, turn by turn, to its end. Nothing is read while a turn waits for its
+/// response.
 pub fn serve_link<L: Link, T: Store>(alloc: Global, link: &mut L, store: &mut T) -> End
     ensures served { (files : Files) → T.files store.old ≡ Some files → (served : Served) → IsSentOf files served
         → StepsBy (IsServedOver served (Rose (T.faults store.old) (T.faults store.new)) result) (L.wire link.old) (L.wire link.new) }
@@ -32,11 +32,12 @@ pub fn serve_link<L: Link, T: Store>(alloc: Global, link: &mut L, store: &mut T)
     ensures stores { result ≡ End.StoreFault → Rose (T.faults store.old) (T.faults store.new) }
     ensures damaged { (file : QueryFile) → result ≡ End.Damaged file → Tells (IsDamaged file) (T.files store.old) }
 
-    // Where no device fails and no file is missing or damaged, the connection ends with its input or its last turn, or memory runs out.
+    // If no device fails and no file is missing or damaged, the connection ends well: The input has ended, the last
+    // turn was served, or memory ran out.
     ensures well { (files : Files) (served : Served) → T.files store.old ≡ Some files → IsServed files served → L.wire link.old ≢ None
         → EndsWell result (Rose (L.faults link.old) (L.faults link.new)) (Rose (T.faults store.old) (T.faults store.new)) }
 
-    // No more files are got than the turns of the bytes that were read take, whatever the folder holds.
+    // There are no more calls of `get` than the turns of the bytes read take, whatever the folder holds.
     ensures gets { (files : Files) → T.files store.old ≡ Some files
         → StepsBy (GetsForRead files (T.gets store.old) (T.gets store.new)) (L.wire link.old) (L.wire link.new) }
     ensures any_moment { Moves T.files T.may_leave T.moment T.image_since SameFiles store.old store.new }
@@ -50,7 +51,7 @@ pub fn serve_link<L: Link, T: Store>(alloc: Global, link: &mut L, store: &mut T)
     }
 }
 
-// Does what the session wants; its end, where it wants no more.
+// Does what the session wants. Returns its end if it wants nothing more.
 fn step<L: Link, T: Store>(
     session: &mut Session,
     link: &mut L,
@@ -92,7 +93,7 @@ fn step<L: Link, T: Store>(
     }
 }
 
-// Reads a piece, and feeds it.
+// Reads a piece, and feeds it to the session.
 fn read_piece<L: Link>(session: &mut Session, link: &mut L, piece: &mut [u8])
     requires wanted { want_of session.old ≡ Want.Read }
     requires room { 0 < length piece.old }
@@ -114,7 +115,7 @@ fn read_piece<L: Link>(session: &mut Session, link: &mut L, piece: &mut [u8])
     }
 }
 
-// Writes what is to be sent, all of it.
+// Writes all bytes that are to be sent.
 fn write_out<L: Link>(session: &mut Session, link: &mut L)
     requires { want_of session.old ≡ Want.Write }
     ensures converses { (served : Served) (before after : ℕ)
@@ -131,7 +132,7 @@ fn write_out<L: Link>(session: &mut Session, link: &mut L)
     }
 }
 
-// Writes of what is to be sent as much as the link takes at once.
+// Passes the bytes to be sent to the link, and notes how many the link took.
 fn write_some<L: Link>(session: &mut Session, link: &mut L)
     requires { want_of session.old ≡ Want.Write }
     ensures converses { (served : Served) (before after : ℕ)

@@ -1,4 +1,4 @@
-//! One connection as a machine: what it wants, what it is fed, and what it puts out.
+//! One connection as a state machine: what it wants, what it is fed, and what it outputs.
 
 ghost use Rattle.std.specs.Prelude.{◌≡◌, ◌≢◌, ◌⊎◌, ◌≤◌, ◌<◌, ◌+◌, ◌%◌, ◌++◌, ◌||◌, [], Some, None, IsTrue, true, drop, length, IfSome, option_map};
 ghost use Rattle.ept_base.specs.Causes.{Rose};
@@ -35,8 +35,8 @@ use std::alloc::Global;
 use std::marker::Model;
 use std::mem;
 
-/// One connection. Contracts see what it keeps: the bytes that no turn has taken, the turn in hand, the bytes
-/// to be sent, and the end that is to follow, where one is fixed.
+/// One connection. Contracts see the bytes that no turn has taken, whether the input has ended, the turn in hand and
+/// the bytes to be sent. They also see why the session ends early, if it does.
 #[derive(Debug, Drop)]
 pub struct Session {
     conn: Conn,
@@ -84,7 +84,7 @@ impl Session {
         }
     }
 
-    /// Feeds bytes that came; no bytes are the end of the input. Where memory runs out, the session ends.
+    /// Feeds bytes that came. An empty piece is the end of the input. If memory runs out, the session ends.
     pub fn feed(&mut self, piece: &[u8])
         requires { want_of self.old ≡ Want.Read }
         ensures { (self.new ≡ feeds self.old piece.now) ⊎ (self.new ≡ record self.old { fault = Some Fault.Memory }) }
@@ -96,9 +96,12 @@ impl Session {
         }
     }
 
-    /// Does one piece of work: decides one turn, makes the plan of one query or selection, or gets one file or one tile.
-    /// Where that is refused, the session ends; with status 503 where the store is the cause and 507 where
-    /// memory is, if nothing of the answer was put out before and there is memory for that.
+    /// Does one piece of work: decides one turn, makes the plan of one query or selection, or gets one file or one
+    /// tile.
+    ///
+    /// If the work is refused, the session ends. It does so with status 503 if the cause is the store or a damaged
+    /// file, and with 507 if it is memory. No status is sent if a part of the response was output before, or if there
+    /// is no memory for the status.
     pub fn work<T: Store>(&mut self, store: &mut T)
         requires { want_of self.old ≡ Want.Work }
         ensures works { self.new.fault ≡ None → (files : Files) → T.files store.old ≡ Some files
@@ -132,7 +135,7 @@ impl Session {
         self.to_send()
     }
 
-    /// The first bytes to be sent now were sent, so many.
+    /// Notes that the first `count` of the bytes to be sent were sent.
     pub fn sent(&mut self, count: usize)
         requires wanted { want_of self.old ≡ Want.Write }
         requires some { 0 < count }
@@ -142,7 +145,7 @@ impl Session {
         self.out.send(count);
     }
 
-    /// The link failed. The session ends.
+    /// Notes that the link failed. The session ends.
     pub fn fault(&mut self)
         requires { (want_of self.old ≡ Want.Read) ⊎ (want_of self.old ≡ Want.Write) }
         ensures { self.new ≡ record self.old { hand = Hand.Empty; out = []; fault = Some Fault.Link } }
@@ -167,7 +170,7 @@ impl Session {
         self.out.as_slice()
     }
 
-    // What a session wants that goes on and has nothing to be sent.
+    // What a session wants if no end is fixed and nothing is to be sent.
     fn want_on(&self) -> Want
         ensures { result ≡ wants_on self.now.hand (has_turn self.now.held) (self.now.closed || self.now.held.ended) }
     {
@@ -196,7 +199,7 @@ impl Session {
         }
     }
 
-    // Puts a refusal out, and takes any other turn in hand.
+    // Puts a refusal into the output, and takes any other turn in hand.
     fn take_up(&mut self, turn: Turn)
         requires ready { IsReady self.old }
         requires fit { MayBeAsked turn.asked }
@@ -213,7 +216,7 @@ impl Session {
         }
     }
 
-    // Puts a status out.
+    // Puts the head of a refusal with this status into the output.
     fn refuse(&mut self, status: u16, last: bool)
         requires ready { IsReady self.old }
         requires status { IsTrue (is_refusal status) }
@@ -265,7 +268,7 @@ impl Session {
         }
     }
 
-    // Gets a file, and puts the answer out.
+    // Gets a file, and puts the response with it into the output.
     fn get_file<T: Store>(&mut self, store: &mut T, name: &Text, last: bool)
         requires ready { IsReady self.old }
         ensures out { self.new.fault ≡ None → (files : Files) → T.files store.old ≡ Some files
@@ -287,7 +290,7 @@ impl Session {
         }
     }
 
-    // Puts the answer that a file is out.
+    // Puts the response with a file into the output, or status 404 if there is no file.
     fn put_file(&mut self, json: bool, last: bool, content: &Option<Vec<u8>>)
         requires ready { IsReady self.old }
         ensures out { self.new.fault ≡ None → self.new.out ≡ file_answer json last (option_map (λ bytes. bytes.items) content.now) }
@@ -301,7 +304,7 @@ impl Session {
         }
     }
 
-    // Makes the plan of the points that the turn asks for, and puts the head of the answer out.
+    // Makes the plan of the points that the turn asks for, and puts the head of the response into the output.
     fn make_plan<T: Store>(&mut self, store: &mut T, turn: Turn, area: &Box3, depths: (u8, u8))
         requires ready { IsReady self.old }
         requires wanted { Wants turn.asked area.now depths.0 depths.1 }
@@ -331,7 +334,7 @@ impl Session {
         }
     }
 
-    // Puts the head of the answer out, and behind it the last chunk where there is no tile.
+    // Puts the head of the response into the output and, if the plan has no tile, the last chunk.
     fn begin(&mut self, turn: Turn, plan: QueryPlan)
         requires ready { IsReady self.old }
         ensures out { self.new.fault ≡ None → self.new.out ≡ head_text (HeadKind.Query turn.last) ++ end_at plan 0 }
@@ -354,7 +357,7 @@ impl Session {
         }
     }
 
-    // Gets one tile of a plan, and puts its chunk out, and behind the last one the last chunk.
+    // Gets one tile of a plan, and puts its chunk into the output. The last chunk follows the last tile.
     fn get_tile<T: Store>(&mut self, store: &mut T, turn: Turn, plan: QueryPlan, done: usize)
         requires ready { IsReady self.old }
         requires within { done < length plan.tiles }
@@ -382,8 +385,7 @@ impl Session {
         }
     }
 
-    // Puts the chunk of what is kept of the points of one tile of a plan out, and behind the last one the last
-    // chunk.
+    // Puts what is kept of the points of one tile into the output as a chunk. The last chunk follows the last tile.
     fn put_kept(&mut self, turn: Turn, plan: QueryPlan, done: usize, points: Vec<u8>)
         requires ready { IsReady self.old }
         requires within { done < length plan.tiles }
@@ -401,7 +403,7 @@ impl Session {
         }
     }
 
-    // Puts the chunk of one tile of a plan out, and behind the last one the last chunk.
+    // Puts the chunk of one tile into the output. The last chunk follows the last tile.
     fn put_tile(&mut self, turn: Turn, plan: QueryPlan, done: usize, points: &[u8])
         requires ready { IsReady self.old }
         requires within { done < length plan.tiles }
@@ -421,7 +423,7 @@ impl Session {
         }
     }
 
-    // Ends the session with the status of the cause; for want of memory, where there is none for that.
+    // Ends the session for this cause, with its status. If there is no memory for the status, memory is the cause.
     fn stop(&mut self, fault: Fault)
         requires { fault ≢ Fault.Link }
         ensures words { IfSome self.new.fault (λ cause. IsLastWord cause self.new.out) }
@@ -436,7 +438,7 @@ impl Session {
         }
     }
 
-    // Ends the session for want of memory, with its status where there is memory for that.
+    // Ends the session because memory ran out, with status 507 if there is memory for it.
     fn stop_for_memory(&mut self)
         ensures words { IsLastWord Fault.Memory self.new.out }
         ensures same { self.new ≡ record self.old { out = self.new.out; fault = Some Fault.Memory } }
@@ -445,7 +447,7 @@ impl Session {
         self.fault = Some(Fault::Memory);
     }
 
-    // Ends the session within an answer.
+    // Ends the session in the middle of a response.
     fn break_off(&mut self, fault: Fault)
         ensures { self.new ≡ record self.old { out = []; fault = Some fault } }
     {

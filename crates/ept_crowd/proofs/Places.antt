@@ -1,4 +1,4 @@
--- A list as what is before a place, what is at it and what is after it.
+-- A list as what is before a place, at it and after it.
 use Rattle.std.proofs.Common.{◌≡◌, ◌≢◌, ◌∙◌, ◌<◌, inl, inr, ℕ, List, [], ◌∷◌, ◌++◌, length, get_or, set, take, drop, refl, sym, ap, subst, arith, suc}
 use Rattle.std.proofs.Math.Seq.{get_or-append_seam, drop-cons}
 use Rattle.std.specs.List.{All, remove}
@@ -27,24 +27,24 @@ module _ {X : Type 0} where
   split-at items place d less =
       sym (take-append-drop place items) ∙ ap (λ (xs : List X). take place items ++ xs) (drop-cons items place d less)
 
-  -- the first is taken off
+  -- the first is removed
   pub first-of : (items rest : List X) (x : X) → 0 < length items → x ≡ get_or items 0 x → rest ≡ take 0 items ++ drop 1 items → items ≡ x ∷ rest
   first-of [] rest x some value after = absurd (omega arith)
   first-of (y ∷ items) rest x some value after =
       ap (λ (first : X). first ∷ items) (sym value) ∙ ap (λ (xs : List X). x ∷ xs) (sym after)
 
-  -- what is put at a place is taken out again
+  -- what is put at a place is removed again
   pub without-set : (items : List X) (place : ℕ) (other : X) → remove (set items place other) place ≡ take place items ++ drop (suc place) items
   without-set items place other =
       ap (λ (xs : List X). xs ++ drop (suc place) (set items place other)) (take-set items place other) ∙ ap (λ (xs : List X). take place items ++ xs) (drop-set-lt (suc place) items place other (omega arith))
 
-  -- what holds of each holds of each but one
+  -- what holds of all holds of all except one
   pub all-without : (P : X → Type 0) (items : List X) (place : ℕ) (other : X) → All P items → All P (remove (set items place other) place)
   all-without P items place other all =
       subst (All P) (sym (without-set items place other)) (All-append P (take place items) (drop (suc place) items) (All-take P place items all) (All-drop P (suc place) items all))
 
 module _ {L T : Type 0} where
-  -- none of them has this number
+  -- no connection has this number
   pub none-among : (number : ℕ) (live : List (Live L T)) → ((k : ℕ) (d : Live L T) → k < length live → (get_or live k d).number ≢ number) → ¬ IsAmong number live
   none-among number [] none among = among
   none-among number (member ∷ live) none (inl same) = none 0 member (omega arith) same

@@ -24,7 +24,7 @@ module _ {L T : Type 0} (link : LinkOf L) (store : StoreOf T) where
   not-gone front member back Pending old new goes = let is = goes.0 in absurd cc
   not-gone front member back (Ready end) old new goes = let is = goes.0 in absurd cc
 
-  -- a turn of a connection is one of its number
+  -- a turn of a connection is a turn of its number
   pub turn-of : (number : ℕ) (front : List (Live L T)) (member : Live L T) (back : List (Live L T)) (old new : Shown L T) (cx : Context) (answer : Turned) → member.number ≡ number → IsTurn link store front member back old new cx answer → HasTurned link store number old new cx answer
   turn-of number front member back old new cx turned.Gone is turn =
       absurd (not-gone front (with_conn member turn.conn) back turn.poll old new turn.goes)
@@ -33,7 +33,7 @@ module _ {L T : Type 0} (link : LinkOf L) (store : StoreOf T) where
   turn-of number front member back old new cx turned.Ended is turn =
       record { front = front; member = member; back = back; number_is = is; turn = turn }
 
-  -- one turn more
+  -- one more turn
   turns-more : (turns : List (ℕ × Turned)) (old mid new : Shown L T) (was now cx : Context) (number : ℕ) (answer : Turned) → HaveTurned link store turns old mid was now → Keeps now cx → HasTurned link store number mid new cx answer → HaveTurned link store (turns ++ ((number, answer) ∷ [])) old new was cx
   turns-more [] old mid new was now cx number answer have keeps turn = (
     new,
@@ -50,7 +50,8 @@ module _ {L T : Type 0} (link : LinkOf L) (store : StoreOf T) where
     turns-more turns have.0 mid new have.1 now cx number answer have.4 keeps turn,
   )
 
-  -- some of those that were live have had their turn: these are live still, and the rest is as it was
+  -- The first `count` connections have had their turn. `done` is those of them that are still live, and `rest` those
+  -- that have had no turn yet.
   pub record HasGone (old now : Shown L T) (was cx : Context) (count place : ℕ) : Type 0 where
     pub turns : List (ℕ × Turned)
     pub done : List (Live L T)
@@ -95,7 +96,7 @@ module _ {L T : Type 0} (link : LinkOf L) (store : StoreOf T) where
       let is = gone.place_is in
       omega (arith, less, rest, live, split, is)
 
-  -- what a turn of the next one does
+  -- what a turn of the next connection does
   abbrev TurnsNext : Shown L T → Shown L T → Context → ℕ → ℕ → Type 0
   TurnsNext now new cx place next =
       (front back : List (Live L T)) (member : Live L T) → now.live ≡ front ++ (member ∷ back) → length front ≡ place → (answer : Turned) × IsTurn link store front member back now new cx answer × (next ≡ place + still answer)
@@ -163,11 +164,11 @@ module _ {L T : Type 0} (link : LinkOf L) (store : StoreOf T) where
         let turn = turns gone.done back member (gone.live_is ∙ ap (λ (rest : List (Live L T)). gone.done ++ rest) is) gone.place_is in
         by-poll member back turn.0 turn.1.conn turn.1.poll is turn.1 turn.1.armed turn.1.goes turn.2
 
-    -- the next one has had its turn
+    -- the next connection has had its turn
     pub gone-more : count < length old.live → TurnsNext now new cx place next → HasGone old new was cx (count + 1) next
     gone-more less turns = by-rest gone.rest refl less turns
 
-  -- all have
+  -- all connections have had their turn
   pub gone-all : (old now : Shown L T) (was cx : Context) (count place : ℕ) (gone : HasGone old now was cx count place) → length old.live ≤ count → gone.rest ≡ []
   gone-all old now was cx count place gone over =
       let all = rest-length old now was cx count place gone in

@@ -7,13 +7,13 @@ use Rattle.ept_crowd.specs.declared.answers.AddError.TheVariants.{Full, Spent, M
 use Rattle.ept_crowd.specs.declared.member.Finished.{Finished}
 use Rattle.ept_crowd.specs.Shown.{Shown}
 
--- why a connection is not added; it comes back
+-- why a connection is not added; the error returns it
 abbrev pub IsRefusal : {L T : Type 0} → Shown L T → PollConn L T → AddError L T → Type 0
 IsRefusal old conn (Full back) = (length old.live ≡ 256) × (back ≡ conn)
 IsRefusal old conn (Spent back) = (length old.live < 256) × (old.added ≡ 2 ^ 32 - 1) × (back ≡ conn)
 IsRefusal old conn (Memory back) = (length old.live < 256) × (old.added < 2 ^ 32 - 1) × (back ≡ conn)
 
--- with one connection more, which has the number of those that were added before it
+-- with one more connection, whose number is the number of those added before it
 abbrev pub with_one : {L T : Type 0} → Shown L T → PollConn L T → Shown L T
 with_one old conn = record {
   live = old.live ++ (record { number = old.added; conn = conn } ∷ []);
@@ -21,13 +21,14 @@ with_one old conn = record {
   added = old.added + 1;
 }
 
--- a connection was added, or was not and nothing has changed
+-- a connection was added; or it was not, and nothing has changed
 abbrev pub HasAdded : {L T : Type 0} → Shown L T → PollConn L T → Result ℕ (AddError L T) → Shown L T → Type 0
 HasAdded old conn (Ok number) new =
     (length old.live < 256) × (old.added < 2 ^ 32 - 1) × (number ≡ old.added) × (new ≡ with_one old conn)
 HasAdded old conn (Err error) new = IsRefusal old conn error × (new ≡ old)
 
--- the first of those that have ended was taken, with its link and its store; none exactly if there is none
+-- the first of those that have ended was taken, with its link and its store; nothing was taken if and only if none has
+-- ended
 abbrev pub HasTaken : {L T : Type 0} → Shown L T → Option (ℕ × End × L × T) → Shown L T → Type 0
 HasTaken old None new = (old.ended ≡ []) × (new ≡ old)
 HasTaken {L} {T} old (Some taken) new =

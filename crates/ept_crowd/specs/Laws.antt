@@ -1,4 +1,4 @@
--- Lists of calls of a crowd. Each statement stands on the contract of a function of `laws`.
+-- Lists of calls of a crowd. Each statement is a clause of a function of `laws`.
 use Rattle.std.specs.Prelude.{◌≡◌, ℕ, ◌<◌, ⊤, List, [], ◌∷◌, Bool, Option, Result}
 use Rattle.std.specs.List.{AllByRecursion}
 use Rattle.futures.specs.declared.task.context.Context.{Context}
@@ -42,7 +42,8 @@ HaveDone link store old [] now = now ≡ old
 HaveDone {L} {T} link store old (call ∷ calls) now =
     (next : Shown L T) × HasDone link store call old next × HaveDone link store next calls now
 
--- a connection was made, and has been polled since; what has gone out is a prefix of what may be sent of the bytes that came, and no turn waited for bytes after it
+-- a connection was made, and has been polled since. What has gone out is a prefix of what may be sent for the bytes
+-- that came. No turn waited for bytes that follow it.
 pub record HasBeenServed (now : Seen) : Type 0 where
   pub first : Seen
   pub made : IsNew first
@@ -65,19 +66,20 @@ AreMade link store (Turn number answer ∷ calls) = AreMade link store calls
 AreMade link store (TurnAll none ∷ calls) = AreMade link store calls
 AreMade link store (TakeEnded taken ∷ calls) = AreMade link store calls
 
--- After any list of calls each connection of the crowd has been served, and each that has ended has been served to its end.
+-- After any list of calls, each connection of the crowd has been served. Each connection that has ended has been served
+-- to its end.
 abbrev pub EachIsServed : {L T : Type 0} → LinkOf L → StoreOf T → Type 0
 EachIsServed {L} {T} link store =
     (calls : List (Call L T)) (now : Shown L T) → AreMade link store calls → HaveDone link store nothing calls now
     → AllByRecursion (λ (member : Live L T). HasBeenServed (seen link store member.conn)) now.live
     × AllByRecursion (λ (one : Finished L T). HasBeenServedTo one.end (seen link store one.conn)) now.ended
 
--- they ascend, and each is below this bound
+-- the numbers ascend, and each is below this bound
 abbrev pub AscendBelow : ℕ → List ℕ → Type 0
 AscendBelow bound [] = ⊤
 AscendBelow bound (n ∷ ns) = (n < bound) × AllByRecursion (λ (later : ℕ). n < later) ns × AscendBelow bound ns
 
--- the numbers of those that are live ascend, so each is of one connection
+-- the numbers of the live connections ascend, so each is that of one connection
 abbrev pub NumbersAscend : {L T : Type 0} → LinkOf L → StoreOf T → Type 0
 NumbersAscend {L} {T} link store =
     (calls : List (Call L T)) (now : Shown L T) → HaveDone link store nothing calls now → AscendBelow now.added (numbers now.live)

@@ -10,15 +10,15 @@ use Rattle.ept_crowd.specs.declared.answers.Turned.TheVariants as turned
 use Rattle.ept_crowd.specs.declared.member.Live.{Live}
 use Rattle.ept_crowd.specs.declared.member.Finished.{Finished}
 
--- it may be polled
+-- a connection may be polled
 abbrev pub IsReady : {L T : Type 0} → Live L T → Type 0
 IsReady member = IsPollable member.conn.turns member.conn.session
 
--- its numbers
+-- the numbers of connections
 abbrev pub numbers : {L T : Type 0} → List (Live L T) → List ℕ
 numbers {L} {T} live = map (λ (member : Live L T). member.number) live
 
--- one of them has this number
+-- one of the connections has this number
 abbrev pub IsAmong : {L T : Type 0} → ℕ → List (Live L T) → Type 0
 IsAmong number [] = ⊥
 IsAmong number (member ∷ live) = (member.number ≡ number) ⊎ IsAmong number live
@@ -31,12 +31,12 @@ with_conn member conn = record { number = member.number; conn = conn }
 abbrev pub ended_as : {L T : Type 0} → Live L T → End → Finished L T
 ended_as member end = record { number = member.number; end = end; conn = member.conn }
 
--- a poll was ready
+-- whether a poll was ready
 abbrev pub is_over : {A : Type 0} → Poll A → Bool
 is_over (Ready value) = true
 is_over Pending = false
 
--- how many connections a turn left live at its place
+-- the number of connections that a turn left live at its place
 abbrev pub still : Turned → ℕ
 still turned.Gone = 0
 still turned.Pending = 1

@@ -2,7 +2,7 @@
 
 use ept_poll::PollConn;
 
-/// Why a connection was not added. Each has the connection.
+/// Why a connection was not added. Each error has the connection.
 #[derive(Drop)]
 pub enum AddError<L, T> {
     /// 256 connections have not ended.
@@ -13,7 +13,7 @@ pub enum AddError<L, T> {
     Memory(PollConn<L, T>),
 }
 
-/// What came of a turn.
+/// The outcome of a turn.
 #[derive(Clone, Copy, Debug, PartialEq, Eq)]
 pub enum Turned {
     /// No live connection has the number.

@@ -16,23 +16,23 @@ use futures::Future;
 use futures::task::{Context, Poll};
 use std::alloc::Global;
 
-/// How many connections may be live at once.
+/// The most connections that may be live at once.
 const MOST: usize = 256;
 
-/// Connections that take turns on one thread: those that have not ended, which are live, and those that have ended and
-/// were not taken yet, each with its end. A connection has the number of those that were added before it.
+/// Connections that take turns on one thread. A connection that has not ended is live. A connection that has ended is
+/// kept with its end until it is taken. The number of a connection is the number of those added before it.
 ///
-/// It is a future that gives each live connection a turn in each poll, and is ready when none is live.
+/// It is a future that gives each live connection a turn in each poll. It is ready when no connection is live.
 #[derive(Drop)]
 pub struct Crowd<L, T> {
     live: Vec<Live<L, T>>,
     ended: Vec<Finished<L, T>>,
     added: u32,
-    // No more than may be live at once are.
+    // At most 256 connections are live.
     ghost few: { length live.items ≤ 256 },
-    // Each may be polled.
+    // Each live connection may be polled.
     ghost ready: { All IsReady live.items },
-    // There is room for the end of each.
+    // There is room for the end of each live connection.
     ghost room: { length ended.items + length live.items ≤ vec_capacity ended },
 }
 
@@ -52,20 +52,20 @@ impl<L: PollLink + Drop, T: Store + Drop> Crowd<L, T> {
         }
     }
 
-    /// How many connections are live.
+    /// The number of live connections.
     pub fn live(&self) -> u32
         ensures { result ≡ length (shown self.now).live }
     {
         self.live.len() as u32
     }
 
-    /// Adds a connection, of which no poll was ready, and returns its number. It makes the room in which the connection's
-    /// end is kept, so no turn takes memory.
+    /// Adds a connection, of which no poll was ready, and returns its number. It makes the room in which the
+    /// connection's end is kept, so no turn takes memory.
     ///
     /// # Errors
     ///
-    /// `Full` if 256 connections are live, and else `Spent` if 4,294,967,295 were added. After an error the connections
-    /// are as before, and the error has the one that was not added.
+    /// `Full` if 256 connections are live, otherwise `Spent` if 4,294,967,295 were added, and `Memory` if memory runs
+    /// out. After an error the crowd is as before, and the error has the connection that was not added.
     pub fn add(&mut self, conn: PollConn<L, T>) -> Result<u32, AddError<L, T>>
         requires { IsPollable conn.turns conn.session }
         ensures { HasAdded (shown self.old) conn result (shown self.new) }
@@ -100,7 +100,8 @@ impl<L: PollLink + Drop, T: Store + Drop> Crowd<L, T> {
         }
     }
 
-    /// Polls each live connection once, in order of number, and returns whether none is live. It takes no memory.
+    /// Polls each live connection once, in order of number, and returns whether no connection is live then. It takes no
+    /// memory.
     pub fn turn_all(&mut self, cx: &mut Context<'_>) -> bool
         ensures turned { HasTurnedAll L.PollLink T.Store (shown self.old) (shown self.new) cx.old cx.new result }
         ensures kept { Keeps cx.old cx.new }
@@ -112,8 +113,8 @@ impl<L: PollLink + Drop, T: Store + Drop> Crowd<L, T> {
         self.live.is_empty()
     }
 
-    /// The first of the connections that have ended and were not taken yet: its number, its end, its link and its store.
-    /// None if there is none. It takes no memory.
+    /// Takes the first of the connections that have ended and were not taken yet: its number, its end, its link and its
+    /// store. Returns nothing if there is no such connection. It takes no memory.
     pub fn take_ended(&mut self) -> Option<(u32, End, L, T)>
         ensures { HasTaken (shown self.old) result (shown self.new) }
     {
@@ -125,7 +126,7 @@ impl<L: PollLink + Drop, T: Store + Drop> Crowd<L, T> {
         Some((number, end, link, store))
     }
 
-    // Polls the connection at this place of the live ones, and returns the place of the one after it.
+    // Polls the live connection at this place, and returns the place of the next one.
     fn turn_next(&mut self, place: usize, cx: &mut Context<'_>) -> usize
         requires { place < length (shown self.old).live }
         ensures turned { (front back : List (Live L T)) (member : Live L T) → (shown self.old).live ≡ front ++ (member ∷ back) → length front ≡ place
@@ -138,7 +139,7 @@ impl<L: PollLink + Drop, T: Store + Drop> Crowd<L, T> {
         }
     }
 
-    // Polls the connection at this place of the live ones.
+    // Polls the live connection at this place.
     fn turn_at(&mut self, place: usize, cx: &mut Context<'_>) -> Turned
         requires { place < length (shown self.old).live }
         ensures turned { (front back : List (Live L T)) (member : Live L T) → (shown self.old).live ≡ front ++ (member ∷ back) → length front ≡ place
@@ -161,7 +162,7 @@ impl<L: PollLink + Drop, T: Store + Drop> Future for Crowd<L, T> {
 
     type Output = ();
 
-    /// Gives each live connection one turn, in order of number. It is ready if then none is live.
+    /// Gives each live connection one turn, in order of number. It is ready if no connection is live then.
     fn poll(&mut self, cx: &mut Context<'_>) -> Poll<()>
         ensures turned { HasTurnedAll L.PollLink T.Store (shown self.old) (shown self.new) cx.old cx.new (is_over result) }
         ensures registered { OnPending result (Covers cx.new (λ _. ⊥)) }
@@ -208,7 +209,7 @@ fn poll_at<L: PollLink + Drop, T: Store + Drop>(
     member.conn.poll(cx)
 }
 
-// Moves the connection at this place behind those that have ended, with its end.
+// Moves the connection at this place to the end of those that have ended, with its end.
 fn end_at<L, T>(live: &mut Vec<Live<L, T>>, ended: &mut Vec<Finished<L, T>>, place: usize, end: End)
     requires there { place < length live.old.items }
     requires room { length ended.old.items < vec_capacity ended.old }

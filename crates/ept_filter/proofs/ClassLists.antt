@@ -8,12 +8,12 @@ use Rattle.ept_class.specs.ClassSet.{has_class}
 use Rattle.ept_filter.specs.SiftText.{AscendFrom, IsClassList, HasMembers, IsClassWord}
 use Rattle.ept_filter.specs.Words.{words}
 
--- the least number that may stand after some that ascend
+-- the least number that may follow some ascending numbers
 abbrev after : ℕ → List ℕ → ℕ
 after least [] = least
 after least (n ∷ later) = after (suc n) later
 
--- the words of some classes stand before the rest
+-- the words of some classes come before the rest
 pub record HasReadClasses (text : List ℕ) (rest : List (List ℕ)) (set : ClassSet) (least : ℕ) : Type 0 where
   pub classes : List ℕ
   pub spelled : words text ≡ map decimal classes ++ rest

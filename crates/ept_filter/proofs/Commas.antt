@@ -1,4 +1,4 @@
--- What stands between the commas of a text.
+-- The words between the commas of a text.
 use Rattle.std.proofs.Common.{Bool, true, false, ◌≡◌, ℕ, ◌+◌, ◌-◌, ◌<◌, ◌≤◌, List, [], ◌∷◌, length, take, drop, Option, Some, None, Bor, cond, eqb, ltb, MatchOption, refl, ap, ◌∙◌, arith}
 use Rattle.std.specs.List.{slice_split, position_or_len}
 use Rattle.std.proofs.lemmas.List.Splits.{slice_split_first, length-slice_split}
@@ -45,6 +45,6 @@ pub some-word : (text : List ℕ) → 1 ≤ length (words text)
 unfolding words
 some-word text = omega (arith, length-slice_split is_comma text)
 
--- one word less is left
+-- one word fewer is left
 pub words-step : (rest : Option (Bor (List ℕ))) (text : Bor (List ℕ)) (word : List ℕ) (later : Option (Bor (List ℕ))) → rest ≡ Some text → MatchOption later (words text.now ≡ word ∷ []) (λ l. words text.now ≡ word ∷ words l.now) → words_of rest ≡ word ∷ words_of later
 words-step rest text word later is h = ap words_of is ∙ words-next text.now word later h

@@ -29,7 +29,7 @@ use Rattle.ept_filter.proofs.RowNames.{one-name}
 abbrev pub Decided : Type 0 → Type 0
 Decided P = P ⊎ (¬ P)
 
--- ---- a word is one of so many
+-- ---- a word is one of `n`
 
 abbrev IsOneOf : (ℕ → List ℕ) → ℕ → List ℕ → Type 0
 IsOneOf print n word = (k : ℕ) × (k < n) × (word ≡ print k)
@@ -178,7 +178,7 @@ same-rows a b names inside_a inside_b =
     one-name _ _ (inside_a k inside) (inside_b k there)
     (sym (get_or-map name_of a k 0 [] inside) ∙ ap (λ (ws : List (List ℕ)). get_or ws k []) names ∙ get_or-map name_of b k 0 [] there))
 
--- dimensions, and zeros behind them
+-- the zeros after the dimensions
 abbrev zeros : ℕ → List ℕ
 zeros m = replicate m 0
 

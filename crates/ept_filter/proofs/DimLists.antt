@@ -11,7 +11,7 @@ use Rattle.ept_filter.proofs.RowNames.{one-name}
 use Rattle.ept_filter.proofs.Distinct.{few-distinct}
 use Rattle.ept_filter.proofs.Commas.{some-word}
 
--- the names of the first `len` rows stand before the rest of the words
+-- the names of the first `len` rows come before the rest of the words
 pub record HasRead (text : List ℕ) (rest : List (List ℕ)) (rows : List ℕ) (len : ℕ) : Type 0 where
   pub array : length rows ≡ count_of_dims
   pub most : len ≤ count_of_dims
@@ -21,7 +21,7 @@ pub record HasRead (text : List ℕ) (rest : List (List ℕ)) (rows : List ℕ) 
   pub others : (i : ℕ) → len ≤ i → get_or rows i 0 ≡ 0
 
 module _ (text : List ℕ) (rows : List ℕ) (len : ℕ) (word : List ℕ) (more : List (List ℕ)) (h : HasRead text (word ∷ more) rows len) where
-  -- one more
+  -- one more name
   pub read-more : (dim : ℕ) → dim < count_of_dims → name_of dim ≡ word → ((i : ℕ) → i < len → get_or rows i 0 ≢ dim) → len < count_of_dims → HasRead text more (set rows len dim) (len + 1)
   read-more dim small named new room =
       let inside_array : len < length rows = omega (arith, h.array) in
@@ -82,14 +82,14 @@ module _ (text : List ℕ) (rows : List ℕ) (len : ℕ) (word : List ℕ) (more
     unfolding next-dim
     next-new i less e = is.differ i len less long (same-before i less ∙ e)
 
-    -- so it is the one of that name
+    -- so it is the row with that name
     pub next-is : (row : ℕ) → row < count_of_dims → name_of row ≡ word → row ≡ next-dim
     next-is row small named = one-name row next-dim small next-inside (named ∙ sym next-named)
 
     pub next-room : len < count_of_dims
     next-room = omega (arith, long, few-distinct count_of_dims dims is.inside is.differ)
 
--- all were read
+-- all words were read
 module _ (text : List ℕ) (rows : List ℕ) (len : ℕ) (h : HasRead text [] rows len) where
   counted : length (take len rows) ≡ len
   counted = length-take-le len rows (omega (arith, h.array, h.most))

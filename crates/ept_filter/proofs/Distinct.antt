@@ -1,4 +1,4 @@
--- Numbers that differ and are below another one are no more than that.
+-- Distinct numbers below `n` are at most `n` in number.
 use Rattle.std.proofs.Common.{◌≡◌, ◌≢◌, ℕ, zero, suc, ◌<◌, ◌≤◌, List, [], ◌∷◌, length, get_or, filter, ltb, Bool, true, false, refl, ap, ◌∙◌, arith}
 use Rattle.std.specs.Prelude.{⊤}
 use Rattle.std.specs.List.{AllByRecursion}
@@ -20,7 +20,7 @@ distinct (x ∷ xs) differ = (
 abbrev below : ℕ → List ℕ → List ℕ
 below n xs = filter (λ x. ltb x n) xs
 
--- those that are not the greatest keep what each has
+-- what holds of all numbers holds of those below `n`
 kept : (P : ℕ → Type 0) (n : ℕ) (xs : List ℕ) → AllByRecursion P xs → AllByRecursion P (below n xs)
 kept P n [] all = tt
 kept P n (x ∷ xs) all = by (ltb x n) refl (kept P n xs all.1)
@@ -45,7 +45,7 @@ all-below n (x ∷ xs) = by (ltb x n) refl (all-below n xs)
     by true e later = rw e ((Decides-ltb x n).0 e, later)
     by false e later = rw e later
 
--- where none is the greatest, all are kept
+-- if no number is `n`, all are kept
 none-greatest : (n : ℕ) (xs : List ℕ) → AllByRecursion (λ x. x < suc n) xs → AllByRecursion (λ x. n ≢ x) xs → length (below n xs) ≡ length xs
 none-greatest n [] all other = refl
 none-greatest n (x ∷ xs) all other =

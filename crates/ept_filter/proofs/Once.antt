@@ -1,4 +1,4 @@
--- Three texts ask for one selection at most.
+-- Three texts ask for at most one selection.
 use Rattle.std.proofs.Common.{◌≡◌, ◌≢◌, ℕ, ◌<◌, List, [], ◌∷◌, length, map, get_or, Option, Some, None, eqb, decimal, refl, sym, ap, subst, ◌∙◌, arith, inl, inr, length-take-le}
 use Rattle.std.specs.Prelude.{codes}
 use Rattle.std.specs.List.{AllByRecursion, list_any}

@@ -53,7 +53,7 @@ part-is bytes dim begin end inside from to =
     let place : begin ≡ 0 + widths_before dim dimensions = omega (arith, start-is dim) in
     rw (width, place) (sym (part-at bytes dim inside))
 
--- of a packed point it has its width
+-- a dimension of a packed point has its width
 pub length-part : (bytes : List ℕ) (dim : ℕ) → dim < count_of_dims → length bytes ≡ packed_width → length (part bytes dim) ≡ width_of dim
 length-part bytes dim inside len =
     ap length (sym (part-is bytes dim (start_of dim) (start_of (dim + 1)) inside refl refl)) ∙ omega (arith, length-take (start_of (dim + 1) - start_of dim) (drop (start_of dim) bytes), length-drop (start_of dim) bytes, start-suc dim inside, start-most (dim + 1), len)
@@ -63,7 +63,7 @@ pub starts-read : (starts : List ℕ) (dim at : ℕ) → AreStarts starts → at
 starts-read starts dim at are same inside =
     rw same (are.each dim (omega arith), are.each (dim + 1) (omega arith))
 
--- one start more
+-- one more start
 pub starts-more : (starts : List ℕ) (dim width : ℕ) → length starts ≡ count_of_dims + 1 → dim < count_of_dims → width ≡ width_of dim → ((k : ℕ) → k ≤ dim → get_or starts k 0 ≡ start_of k) → (length (set starts (dim + 1) (get_or starts dim 0 + width)) ≡ count_of_dims + 1) × ((k : ℕ) → k ≤ dim + 1 → get_or (set starts (dim + 1) (get_or starts dim 0 + width)) k 0 ≡ start_of k)
 starts-more starts dim width array inside is before = (
   length-set starts (dim + 1) (get_or starts dim 0 + width) ∙ array,

@@ -3,11 +3,11 @@ use Rattle.std.specs.Prelude.{◌≡◌, ◌≢◌, ℕ, ◌<◌, ◌≤◌, Lis
 use Rattle.std.specs.List.{range_with_len}
 use Rattle.ept_point.specs.Dimensions.{Dimension, dimensions}
 
--- how many there are
+-- the number of dimensions
 abbrev pub count_of_dims : ℕ
 count_of_dims = length dimensions
 
--- all of them, in order
+-- all dimensions, in order
 abbrev pub all_dims : List ℕ
 all_dims = range_with_len 0 count_of_dims
 
@@ -15,11 +15,11 @@ all_dims = range_with_len 0 count_of_dims
 abbrev pub name_of : ℕ → List ℕ
 name_of dim = slice_index_or (map (λ (d : Dimension). d.name) dimensions) dim []
 
--- how many bytes it takes
+-- the number of bytes of a dimension
 abbrev pub width_of : ℕ → ℕ
 width_of dim = slice_index (map (λ (d : Dimension). d.width) dimensions) dim
 
--- the first `len` entries are dimensions, at least one and none twice, and the others are 0
+-- the first `len` entries are dimensions, at least one and none twice; the other entries are 0
 pub record AreDims (rows : List ℕ) (len : ℕ) : Type 0 where
   pub array : length rows ≡ count_of_dims
   pub some : 1 ≤ len

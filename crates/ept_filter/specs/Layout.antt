@@ -1,4 +1,4 @@
--- Where the bytes of a dimension are in a packed point: by the widths of the dimensions before it alone.
+-- Where the bytes of a dimension are in a packed point. This follows from the widths of the dimensions before it alone.
 use Rattle.std.specs.Prelude.{◌≡◌, ℕ, ◌+◌, ◌≤◌, List, [], length, map, take, slice_index, slice_index_or}
 use Rattle.std.specs.List.{sum_by}
 use Rattle.ept_point.specs.Dimensions.{Dimension, dimensions, pieces}
@@ -8,7 +8,7 @@ use Rattle.ept_filter.specs.Dims.{count_of_dims}
 unfoldable pub part : List ℕ → ℕ → List ℕ
 part bytes dim = slice_index_or (map (λ (piece : Dimension × List ℕ). piece.1) (pieces 0 dimensions bytes)) dim []
 
--- how many bytes the dimensions before one take
+-- the number of bytes of the dimensions before one
 unfoldable pub start_of : ℕ → ℕ
 start_of dim = sum_by (λ dimension. dimension.width) (take dim dimensions)
 

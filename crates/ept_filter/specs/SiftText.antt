@@ -12,18 +12,18 @@ use Rattle.ept_filter.specs.Asked.{asked_rows}
 
 -- ---- classes
 
--- numbers ascend: the first is not below the least, and each later one is above the one before it
+-- numbers ascend: the first is not below the least, and each later number is above the one before it
 abbrev pub AscendFrom : ℕ → List ℕ → Type 0
 AscendFrom least [] = ⊤
 AscendFrom least (n ∷ later) = (least ≤ n) × AscendFrom (suc n) later
 
--- between the commas of a text stand classes, which ascend
+-- the words between the commas of a text are classes, which ascend
 pub record IsClassList (text classes : List ℕ) : Type 0 where
   pub spelled : words text ≡ map decimal classes
   pub ascend : AscendFrom 0 classes
   pub bytes : AllByRecursion (λ class. class < 256) classes
 
--- they are the members of a set
+-- the classes are the members of a set
 abbrev pub HasMembers : ClassSet → List ℕ → Type 0
 HasMembers set classes = (class : ℕ) → has_class set class ≡ list_any (λ member. class == member) classes
 
@@ -44,20 +44,20 @@ pub record IsTimeDigits (text time : List ℕ) : Type 0 where
   pub len : length time ≡ GpsTime.width
   pub bytes : (i : ℕ) → slice_index time i < 256
 
--- a text asks for any time, or for one
+-- a text asks for any time, or for one time
 abbrev pub IsTimeText : List ℕ → Option (List ℕ) → Type 0
 IsTimeText text None = text ≡ codes "-"
 IsTimeText text (Some time) = IsTimeDigits text time
 
 -- ---- dimensions
 
--- between the commas of a text stand the names of dimensions, which differ
+-- the words between the commas of a text are names of dimensions, which differ
 pub record IsDimList (text dims : List ℕ) : Type 0 where
   pub spelled : words text ≡ map name_of dims
   pub inside : (i : ℕ) → i < length dims → slice_index dims i < count_of_dims
   pub differ : (i k : ℕ) → i < k → k < length dims → slice_index dims i ≢ slice_index dims k
 
--- a text asks for all dimensions, or for some
+-- a text asks for all dimensions, or for those that it lists
 abbrev pub IsDimsText : List ℕ → List ℕ → Type 0
 IsDimsText text dims = ((text ≡ codes "-") × (dims ≡ all_dims)) ⊎ IsDimList text dims
 

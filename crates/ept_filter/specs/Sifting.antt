@@ -11,12 +11,12 @@ use Rattle.ept_filter.specs.declared.sift.Sift.{Sift}
 use Rattle.ept_filter.specs.Asked.{asked_rows}
 use Rattle.ept_filter.specs.Layout.{part}
 
--- any class is asked for, or those of a set
+-- any class is asked for, or the class is in the set that is asked for
 abbrev pub admits_class : Option ClassSet → ℕ → Bool
 admits_class None class = true
 admits_class (Some set) class = has_class set class
 
--- any time is asked for, or one
+-- any time is asked for, or this one
 abbrev pub admits_time : Option (List ℕ) → List ℕ → Bool
 admits_time None time = true
 admits_time (Some asked) time = bytes_eq asked time
@@ -27,7 +27,7 @@ admits_time (Some asked) time = bytes_eq asked time
 abbrev pub passes : Sift → Point → Bool
 passes sift p = admits_class sift.classes p.class && admits_time sift.time p.gps
 
--- what is kept of a point: the bytes of the dimensions that are asked for, in the order in which they are
+-- what is kept of a point: the bytes of the dimensions asked for, in the order in which they are asked for
 abbrev pub cut : Sift → Point → List ℕ
 cut sift p = flat_map (λ dim. slice_index_or (field_bytes p) dim []) (asked_rows sift.dims)
 
@@ -54,7 +54,7 @@ abbrev pub packed_points : ℕ → List ℕ → List (List ℕ)
 packed_points zero bytes = []
 packed_points (suc count) bytes = take packed_width bytes ∷ packed_points count (drop packed_width bytes)
 
--- those that pass
+-- the packed points that pass
 unfoldable pub selected : Sift → List ℕ → List (List ℕ)
 selected sift bytes = filter (passes_packed sift) (packed_points (length bytes / packed_width) bytes)
 

@@ -11,7 +11,7 @@ use ept_num::read_whole;
 /// The greatest class.
 const MAX_CLASS: i64 = 255;
 
-/// The classes that a text asks for: any where it is `-`, else those that ascend in it.
+/// The classes that a text asks for: any class if it is `-`, otherwise those that ascend in it.
 pub(crate) fn read_classes(text: &[u8]) -> Option<Option<ClassSet>>
     ensures some { IfSome result (IsClassesText text.now) }
     ensures none { IfNone result ((classes : Option ClassSet) → ¬ IsClassesText text.now classes) }
@@ -41,7 +41,7 @@ fn read_class_list(text: &[u8]) -> Option<ClassSet>
     Some(set)
 }
 
-// The class that a word spells, where it is not below the least.
+// The class that a word spells, if it is not below the least.
 fn read_class(word: &[u8], least: u16) -> Option<u8>
     ensures some { IfSome result (λ class. IsClassWord word.now least class) }
     ensures none { IfNone result ((class : ℕ) → ¬ IsClassWord word.now least class) }

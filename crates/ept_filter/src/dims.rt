@@ -4,7 +4,7 @@ ghost use Rattle.ept_filter.specs.Dims.{AreDims};
 
 use crate::rows::DIMENSIONS;
 
-/// The dimensions that are asked for, in that order: at least one, and none twice. Each is its row in the
+/// Dimensions in the order in which they are asked for: at least one, and none twice. Each is given by its row in the
 /// table of dimensions, from 0. The entries from `len` on are 0.
 #[derive(Clone, Copy, Debug, PartialEq, Eq)]
 pub struct Dims {

@@ -1,4 +1,4 @@
-//! What holds of every selection. Each law is the contract of a function that does nothing.
+//! What holds for every selection. Each law is the contract of a function that does nothing.
 
 ghost use Rattle.ept_filter.specs.Laws.{SelectsPoints, SiftsPoints, TextsHaveOneSift, TextsAskOrNot};
 
@@ -14,7 +14,7 @@ pub fn sift_law()
     packed_length_law();
 }
 
-/// Three texts ask for one selection at most, and it is decided whether they ask for one.
+/// Three texts ask for at most one selection, and it is decided whether they ask for one.
 pub fn sift_text_law()
     ensures once { TextsHaveOneSift }
     ensures decided { TextsAskOrNot }

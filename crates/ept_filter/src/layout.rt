@@ -5,7 +5,7 @@ ghost use Rattle.ept_filter.specs.Layout.{AreStarts};
 use crate::rows::{DIMENSIONS, width_of};
 use ept_point::PACKED_LENGTH;
 
-/// How many bounds the dimensions have: the start of each, and the end of the last.
+/// The number of bounds: the start of each dimension, and the end of the last.
 const BOUNDS: usize = DIMENSIONS + 1;
 
 /// The start of the bytes of each dimension, and the end of the last.
@@ -21,7 +21,7 @@ impl Layout {
     ghost use Rattle.ept_filter.specs.Dims.{count_of_dims};
     ghost use Rattle.ept_filter.specs.Layout.{part, start_of};
 
-    /// From the widths of the dimensions alone.
+    /// The layout by the widths of the dimensions alone.
     pub(crate) fn new() -> Layout {
         let mut starts = [0; BOUNDS];
         for dim in 0..DIMENSIONS {

@@ -14,10 +14,9 @@ use crate::words::first_word;
 
 /// The selection that three texts ask for. It takes no memory.
 ///
-/// - `classes`: `-` for any, or whole numbers from 0 to 255 that ascend, with commas between them;
-/// - `time`: `-` for any, or the eight bytes in the order of the file, each as two hexadecimal digits in
-///   lower case;
-/// - `dims`: `-` for all, or names of dimensions, none twice, with commas between them.
+/// - `classes`: `-` for any class, or whole numbers from 0 to 255 that ascend, with commas between them.
+/// - `time`: `-` for any time, or the eight bytes in the order of the file, each as two lower-case hexadecimal digits.
+/// - `dims`: `-` for all dimensions, or names of dimensions, none twice, with commas between them.
 pub fn read_sift(classes: &[u8], time: &[u8], dims: &[u8]) -> Option<Sift>
     ensures some { IfSome result (IsSiftText classes.now time.now dims.now) }
     ensures none { IfNone result ((sift : Sift) → ¬ IsSiftText classes.now time.now dims.now sift) }
@@ -32,7 +31,7 @@ pub fn read_sift(classes: &[u8], time: &[u8], dims: &[u8]) -> Option<Sift>
     })
 }
 
-// The dimensions that a text asks for: all where it is `-`, else those that it names.
+// The dimensions that a text asks for: all if it is `-`, otherwise those that it names.
 fn read_dims(text: &[u8]) -> Option<Dims>
     ensures some { IfSome result (λ dims. IsDimsText text.now (asked_rows dims)) }
     ensures none { IfNone result ((dims : List ℕ) → ¬ IsDimsText text.now dims) }

@@ -5,7 +5,7 @@ ghost use Rattle.ept_filter.specs.Dims.{count_of_dims, name_of, width_of};
 
 use ept_point::{GPS_WIDTH, NUMBER_WIDTH};
 
-/// How many dimensions a packed point has.
+/// The number of dimensions of a packed point.
 pub(crate) const DIMENSIONS: usize = 21;
 
 /// The row of the class.
@@ -39,7 +39,7 @@ const NAMES: [&str; DIMENSIONS] = [
     "PointId",
 ];
 
-/// How many bytes each dimension takes, in the same order.
+/// The number of bytes of each dimension, in the same order.
 const WIDTHS: [usize; DIMENSIONS] = [
     4,
     4,
@@ -72,7 +72,7 @@ fn name_of(dim: usize) -> &'static [u8]
     NAMES[dim].as_bytes()
 }
 
-/// How many bytes a dimension takes.
+/// The number of bytes of a dimension.
 pub(crate) fn width_of(dim: usize) -> usize
     requires { dim < count_of_dims }
     ensures { result ≡ width_of dim }
@@ -80,7 +80,7 @@ pub(crate) fn width_of(dim: usize) -> usize
     WIDTHS[dim]
 }
 
-/// The row of the dimension of a name.
+/// The row of the dimension with this name.
 pub(crate) fn row_named(name: &[u8]) -> Option<u8>
     ensures some { IfSome result (λ dim. (dim < count_of_dims) × (name_of dim ≡ name.now)) }
     ensures none { IfNone result ((dim : ℕ) → dim < count_of_dims → name_of dim ≢ name.now) }

@@ -5,7 +5,7 @@ use ept_point::Memory;
 /// Why points are not sifted.
 #[derive(Clone, Copy, Debug, PartialEq, Eq)]
 pub enum SiftError {
-    /// The length is no multiple of a packed point's.
+    /// The number of bytes is no multiple of a packed point's length.
     Length,
     /// Memory ran out.
     Memory,

@@ -13,12 +13,12 @@ use crate::sift_error::SiftError;
 use ept_class::ClassSet;
 use ept_point::{GPS_WIDTH, Memory, PACKED_LENGTH};
 
-/// Appends what is kept of the packed points that pass, one after another in their order, and returns how
-/// many pass. After an error `out` is as it was.
+/// Appends what is kept of the packed points that pass, one after another in their order, and returns the number of
+/// points that pass. After an error `out` is unchanged.
 ///
 /// # Errors
 ///
-/// `Length` where the length of the bytes is no multiple of a packed point's, else only `Memory`.
+/// `Length` if the number of bytes is no multiple of a packed point's length, otherwise only `Memory`.
 pub fn sift_points(bytes: &[u8], sift: &Sift, out: &mut Vec<u8>) -> Result<u64, SiftError>
     ensures kept { OnOk result (out.new.items ≡ out.old.items ++ sifted sift.now bytes.now) }
     ensures number { IfOk result (λ count. count ≡ length (selected sift.now bytes.now)) }
@@ -38,7 +38,7 @@ pub fn sift_points(bytes: &[u8], sift: &Sift, out: &mut Vec<u8>) -> Result<u64, 
     }
 }
 
-// Appends what is kept of the points that pass. After an error some of it may have been appended.
+// Appends what is kept of the points that pass. After an error a part of it may have been appended.
 fn append_sifted(bytes: &[u8], sift: &Sift, out: &mut Vec<u8>) -> Result<u64, Memory>
     requires { length bytes.now % packed_width ≡ 0 }
     ensures kept { OnOk result (out.new.items ≡ out.old.items ++ sifted sift.now bytes.now) }

@@ -1,4 +1,4 @@
-//! What stands between the commas of a text.
+//! The words between the commas of a text.
 
 ghost use Rattle.std.specs.Prelude.{◌≡◌, ◌∷◌, [], MatchOption};
 ghost use Rattle.ept_filter.specs.Words.{words};

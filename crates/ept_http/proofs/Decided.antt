@@ -90,7 +90,7 @@ split P Q fronts backs (b ∷ bytes) =
     (λ h. split-cons P Q b bytes h.front h.back h.is h.is_front h.is_back)
     (either (both (fronts []) (backs (b ∷ bytes))) (split (λ w. P (b ∷ w)) Q (λ w. fronts (b ∷ w)) backs bytes))
 
--- at most so many pieces, one after the other
+-- at most this number of pieces, one after the other
 abbrev pub AtMost : (List ℕ → Type 0) → ℕ → List ℕ → Type 0
 AtMost P zero bytes = bytes ≡ []
 AtMost P (suc n) bytes = (bytes ≡ []) ⊎ IsSplit P (AtMost P n) bytes

@@ -1,4 +1,4 @@
--- Each list of bytes has an answer.
+-- Each list of bytes asks for something.
 use Rattle.std.proofs.Common.{◌≡◌, ℕ, List, Bool, true, ◌||◌, Option, Some, None, refl, inl, inr}
 use Rattle.std.specs.Prelude.{MatchOption}
 use Rattle.httparse.specs.Grammar.{RequestHead}

@@ -41,7 +41,7 @@ line-end bytes = decided-as there back (either (same-bytes bytes (print_end crlf
     back (crlf, _, h) = inl h
     back (lf, _, h) = inr h
 
--- each takes a byte, so there are no more of them than bytes
+-- each takes a byte, so their number is at most that of the bytes
 ends-few : (ends : List LineEnd) → length ends ≤ length (print_blank ends)
 ends-few [] = omega arith
 ends-few (crlf ∷ ends) = omega (arith, ends-few ends)

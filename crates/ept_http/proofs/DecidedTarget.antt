@@ -25,7 +25,7 @@ use Rattle.ept_http.proofs.TargetLemmas.{none-named}
 abbrev IsKeyName : List ℕ → List ℕ → List ℕ → Type 0
 IsKeyName folder ending name = (key : VoxelKey) × IsKey key × (name ≡ folder ++ (key_text key ++ ending))
 
--- the same of the four numbers of a key
+-- the same for the four numbers of a key
 abbrev HasNumbers : List ℕ → List ℕ → List ℕ → Type 0
 HasNumbers folder ending name =
     (depth : ℕ) × (depth < 32) × ((x : ℕ) × (x < 2 ^ depth) × ((y : ℕ) × (y < 2 ^ depth) × ((z : ℕ) × (z < 2 ^ depth) × (let key : VoxelKey = record { depth = depth; x = x; y = y; z = z } in name ≡ folder ++ (key_text key ++ ending)))))
@@ -138,7 +138,7 @@ some-range text = decided-as there back (below 33 _ (λ last. below (suc last) _
     back : IsSomeRange text → (last : ℕ) × (last < 33) × ((first : ℕ) × (first < suc last) × (text ≡ join_with_byte 44 (map decimal (first ∷ last ∷ []))))
     back (first, last, is) = (last, omega (arith, is.bounded), (first, omega (arith, is.ordered), is.spelled))
 
--- a word, a key, and what stands behind it
+-- a word, a key, and what follows the key
 record IsWord (key : List ℕ) (P Q : List ℕ → Type 0) (text : List ℕ) : Type 0 where
   word : List ℕ
   rest : List ℕ

@@ -13,7 +13,7 @@ digits-lack mark n low small =
     let digit = digit_at (decimal n) k (decimal_is_IsNumeral n small).0.1 inside in
     omega (arith, digit.0, get_or_default (decimal n) k d 0 inside))
 
--- a number lacks the bytes below its sign and its digits, as the comma and the ampersand
+-- a number lacks the bytes below its sign and its digits, such as the comma and the ampersand
 pub number-lacks : (mark : ℕ) (n : ℤ) → mark < 45 → FitsSigned w64 n → AllByRecursion (λ b. b ≢ mark) (signed_decimal n)
 number-lacks mark (pos n) low fits = digits-lack mark n low (omega (arith, fits.sfits))
 number-lacks mark (negsuc n) low fits = ((omega arith), digits-lack mark (suc n) low (omega (arith, fits.sfits)))

@@ -1,4 +1,4 @@
--- One text, one box; one target, one thing that it asks for; one head, one answer.
+-- A text spells one box, a target asks for one thing, and bytes ask for one thing.
 use Rattle.std.proofs.Common.{◌≡◌, ◌≢◌, ℕ, ◌<◌, List, [], ◌∷◌, ◌++◌, length, ℤ, pos, FitsSigned, w64, Bool, true, false, Option, Some, None, IsTrue, if◌then◌else◌, refl, sym, ap, subst, ◌∙◌, arith, lit<, decimal, inl, inr, Result, Ok, Err, OnErr}
 use Rattle.std.specs.Prelude.{codes, MatchOption}
 use Rattle.std.specs.Fmt.{signed_decimal}
@@ -25,7 +25,7 @@ use Rattle.ept_http.proofs.SiftTexts.{classes-lack, time-lacks}
 use Rattle.ept_http.proofs.Numbers.{number-lacks, one-number}
 use Rattle.ept_http.proofs.QueryLemmas.{three-axes, split-box, after_min_x, after_min_y, after_min_z, after_max_x, small-depth}
 
--- a list in front of a mark that it lacks is found again
+-- a list before a mark that it lacks is found again
 pub same-front : (mark : ℕ) (xs ys s t : List ℕ) → AllByRecursion (λ b. b ≢ mark) xs → AllByRecursion (λ b. b ≢ mark) ys → xs ++ mark ∷ s ≡ ys ++ mark ∷ t → (xs ≡ ys) × (s ≡ t)
 same-front mark [] [] s t no_x no_y same = (refl, cc)
 same-front mark [] (y ∷ ys) s t no_x no_y same = absurd (no_y.0 cc)
@@ -35,7 +35,7 @@ same-front mark (x ∷ xs) (y ∷ ys) s t no_x no_y same =
     let fronts = rest.0 in
     (cc, rest.1)
 
--- so is a number in front of a comma
+-- so is a number before a comma
 same-number : (m n : ℤ) (s t : List ℕ) → FitsSigned w64 m → FitsSigned w64 n → signed_decimal m ++ 44 ∷ s ≡ signed_decimal n ++ 44 ∷ t → (m ≡ n) × (s ≡ t)
 same-number m n s t fits_m fits_n same =
     let parts = same-front 44 (signed_decimal m) (signed_decimal n) s t (number-lacks 44 m (lit< tt) fits_m) (number-lacks 44 n (lit< tt) fits_n) same in
@@ -80,7 +80,7 @@ served-first name (inr (inr (key, is_key, is))) = (_, is)
 other-letters : (a b : ℕ) (xs ys : List ℕ) → a ∷ xs ≡ b ∷ ys → a < b → ⊥
 other-letters a b xs ys same less = let first : a ≡ b = cc in omega arith
 
--- so no target names a file and a query or a selection, nor a query and a selection
+-- so no target names two of a file, a query and a selection
 file-or-query : (target name : List ℕ) (area : Box3) (first last : ℕ) → target ≡ codes "/" ++ name → IsServedName name → IsQueryTarget target area first last → ⊥
 file-or-query target name area first last spelled served query =
     let begins = served-first name served in
@@ -98,7 +98,7 @@ query-or-select target a b i j k l sift query select =
     let same : codes "/query?box=" ++ (query.box ++ (codes "&depths=" ++ query.depths)) ≡ codes "/select?box=" ++ (select.box ++ (codes "&depths=" ++ (select.depths ++ (codes "&classes=" ++ select.words)))) = sym query.spelled ∙ select.spelled in
     other-letters 113 115 _ _ (append_cancel_left (47 ∷ []) _ _ same) (lit< tt)
 
--- a word that lacks an ampersand is found again in front of a key, and so is what stands behind the key
+-- a word that lacks an ampersand is found again before a key, and so is what follows the key
 same-word : (key a b s t : List ℕ) → AllByRecursion (λ c. c ≢ 38) a → AllByRecursion (λ c. c ≢ 38) b → a ++ 38 ∷ (key ++ s) ≡ b ++ 38 ∷ (key ++ t) → (a ≡ b) × (s ≡ t)
 same-word key a b s t no_a no_b same =
     let parts = same-front 38 a b (key ++ s) (key ++ t) no_a no_b same in
@@ -112,7 +112,7 @@ one-query target a b i j k l p q =
     let range = one-range q.depths i j k l (subst (λ (text : List ℕ). IsDepthsText text i j) parts.1 p.are_depths) q.are_depths in
     (box, range.0, range.1)
 
--- the words of a selection are those of one
+-- the words of a selection spell one selection
 one-sift : (words : List ℕ) (a b : Sift) → AreSiftWords words a → AreSiftWords words b → a ≡ b
 one-sift words a b p q =
     let classes = same-word (codes "time=") p.classes q.classes (p.time ++ (codes "&dims=" ++ p.dims)) (q.time ++ (codes "&dims=" ++ q.dims)) (classes-lack p.classes a.classes p.are.classes_are) (classes-lack q.classes b.classes q.are.classes_are) (sym p.spelled ∙ q.spelled) in
@@ -174,19 +174,19 @@ one-answer bytes a b k l (inl (head, is, to)) (inr none) = absurd (none.0 head i
 one-answer bytes a b k l (inr none) (inl (head, is, to)) = absurd (none.0 head is)
 one-answer bytes a b k l (inr p) (inr q) = (p.1 ∙ sym q.1, p.2 ∙ sym q.2)
 
--- so any judge gives the answer
+-- so any judge gives what the bytes ask for
 pub judged-once : (bytes : List ℕ) (asked : Asked) (last : Bool) (judge : List ℕ → Asked × Bool) → IsJudge judge → IsAnswer bytes asked last → (asked, last) ≡ judge bytes
 judged-once bytes asked last judge is answer =
     let same = one-answer bytes asked (judge bytes).0 last (judge bytes).1 answer (is bytes) in
     λ i. (same.0 i, same.1 i)
 
--- ---- want of memory
+-- ---- out of memory
 
 pub on-err : {T E : Type 0} (r : Result T E) (P : Type 0) → P → OnErr r P
 on-err (Ok x) P h = tt
 on-err (Err e) P h = h
 
--- a whole head whose target names a file has that answer
+-- a whole head whose target names a file asks for it
 pub named-answer : (bytes : List ℕ) (P : RequestHead → Type 0) → (whole : RequestHead) × (IsHead bytes whole × P whole) → (name : List ℕ) × ((whole : RequestHead) → P whole → HeadAsks whole (File name)) → (name : List ℕ) × (last : Bool) × IsAnswer bytes (File name) last
 named-answer bytes P (whole, (is, at)) (name, asks) =
     let to : IsAnswerTo whole (File name) (has_close (lines_of whole)) = record { asks = asks whole at; ends = refl } in

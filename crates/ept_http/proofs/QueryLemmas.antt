@@ -1,4 +1,4 @@
--- The numbers of a box and of a range of depths, one behind the other.
+-- The numbers of a box and of a range of depths, one after the other.
 use mir.Val.{to_z, of_z}
 use Rattle.std.proofs.Common.{◌≡◌, ℕ, Bool, ◌&&◌, ◌↔◌, IsTrue, ◌≤◌, List, [], ◌∷◌, ◌++◌, length, map, ℤ, pos, ◌≤ℤ◌, FitsSigned, w64, refl, sym, ap, subst, ◌∙◌, arith, Option, Some, None, IfNone}
 use Rattle.std.specs.Fmt.{signed_decimal}
@@ -31,7 +31,7 @@ three-axes (x ∷ y ∷ []) same = absurd (omega arith)
 three-axes (x ∷ y ∷ z ∷ []) same = refl
 three-axes (x ∷ y ∷ z ∷ w ∷ place) same = absurd (omega arith)
 
--- what follows the comma behind each number but the last
+-- what follows the comma after each number except the last
 abbrev pub after_max_x : Box3 → List ℕ
 after_max_x area = signed_decimal (coordinate area.max 1) ++ 44 ∷ signed_decimal (coordinate area.max 2)
 
@@ -87,9 +87,9 @@ same-box area least greatest from to is_least is_greatest =
 pub small-depth : (n : ℕ) → n ≤ 32 → FitsSigned w64 (pos n)
 small-depth n small = record { sfits = omega arith }
 
--- ---- no answer
+-- ---- no result
 
--- what is known where nothing comes, seen in another way
+-- what is known if there is no result, stated in another way
 pub if-none : {T : Type 0} (r : Option T) (P Q : Type 0) → IfNone r P → (P → Q) → IfNone r Q
 if-none None P Q h f = f h
 if-none (Some x) P Q h f = tt

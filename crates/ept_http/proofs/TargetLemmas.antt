@@ -51,7 +51,7 @@ none-named target no_file no_query no_select (Refuse status) h = h
 
 -- ---- the words of a query
 
--- what lacks a byte, joined by another, lacks it
+-- if two lists lack a byte, so does the joined list
 pub lacks-append : (mark : ℕ) (xs ys : List ℕ) → AllByRecursion (λ b. b ≢ mark) xs → AllByRecursion (λ b. b ≢ mark) ys → AllByRecursion (λ b. b ≢ mark) (xs ++ ys)
 lacks-append mark [] ys h k = k
 lacks-append mark (x ∷ xs) ys h k = (h.0, lacks-append mark xs ys h.1 k)

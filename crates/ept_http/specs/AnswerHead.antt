@@ -1,4 +1,4 @@
--- The head of an answer (RFC 9112, sections 4 to 6): a status line, its fields, and an empty line.
+-- The head of a response (RFC 9112, sections 4 to 6): a status line, its fields, and an empty line.
 use Rattle.std.specs.Prelude.{ℕ, List, [], ◌∷◌, ◌++◌, Bool, ◌==◌, if◌then◌else◌, IsTrue, ⊤, codes, decimal}
 use Rattle.std.specs.List.{list_any}
 use Rattle.ept_http.specs.declared.answer.HeadKind.{HeadKind}
@@ -22,7 +22,7 @@ abbrev pub is_refusal : ℕ → Bool
 is_refusal status =
     list_any (λ known. known == status) (400 ∷ 404 ∷ 405 ∷ 431 ∷ 503 ∷ 505 ∷ 507 ∷ [])
 
--- a refusal has one of them
+-- a refusal has one of these
 abbrev pub HasStatus : HeadKind → Type 0
 HasStatus (File json len last) = ⊤
 HasStatus (Query last) = ⊤
@@ -45,22 +45,22 @@ line text = text ++ codes "\r\n"
 unfoldable pub status_line : ℕ → List ℕ
 status_line status = line (codes "HTTP/1.1 " ++ decimal status ++ codes " " ++ phrase_of status)
 
--- which methods are allowed, at 405
+-- the allowed methods, for status 405
 abbrev pub allow_line : ℕ → List ℕ
 allow_line status = if status == 405 then line (codes "Allow: GET") else []
 
--- what the body is, at 200
+-- the type of the body, for status 200
 abbrev pub type_line : HeadKind → List ℕ
 type_line (File json len last) =
     if json then line (codes "Content-Type: application/json") else line (codes "Content-Type: application/octet-stream")
 type_line (Query last) = line (codes "Content-Type: application/octet-stream")
 type_line (Refusal status last) = []
 
--- that the connection ends behind the answer
+-- that the connection ends after the response
 abbrev pub connection_line : Bool → List ℕ
 connection_line last = if last then line (codes "Connection: close") else []
 
--- how long the body is: as many bytes as the file has, chunk by chunk, or none
+-- the length of the body: the number of the file's bytes, chunk by chunk, or 0
 abbrev pub length_line : HeadKind → List ℕ
 length_line (File json len last) = line (codes "Content-Length: " ++ decimal len)
 length_line (Query last) = line (codes "Transfer-Encoding: chunked")

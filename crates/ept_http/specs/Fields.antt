@@ -5,17 +5,17 @@ use Rattle.std.specs.Str.{bytes_eq}
 use Rattle.std.specs.Char.{to_ascii_lowercase}
 use Rattle.httparse.specs.Grammar.{trim_ows}
 
--- two names are one, whatever the case of their ASCII letters
+-- two names are the same, whatever the case of their ASCII letters
 abbrev pub same_name : List ℕ → List ℕ → Bool
 same_name a b = bytes_eq (map to_ascii_lowercase a) (map to_ascii_lowercase b)
 
--- the values of the fields of a name, in their order
+-- the values of the fields with a name, in their order
 abbrev pub values_of : List ℕ → List (List ℕ × List ℕ) → List (List ℕ)
 values_of name [] = []
 values_of name (line ∷ lines) =
     if same_name line.0 name then line.1 ∷ values_of name lines else values_of name lines
 
--- the members of a list value: what stands between its commas (RFC 9110, section 5.6.1)
+-- the members of a list value: the texts between its commas (RFC 9110, section 5.6.1)
 abbrev pub members : List ℕ → List (List ℕ)
 members value = slice_split (λ b. b == 44) value
 
@@ -23,12 +23,12 @@ members value = slice_split (λ b. b == 44) value
 abbrev pub is_close : List ℕ → Bool
 is_close member = same_name (trim_ows member) (codes "close")
 
--- a `Connection` field has the member `close`
+-- some `Connection` field has the member `close`
 unfoldable pub has_close : List (List ℕ × List ℕ) → Bool
 has_close lines = list_any (λ value. list_any is_close (members value)) (values_of (codes "Connection") lines)
 
--- the head announces a body, or does not name its host once: a `Transfer-Encoding` is there, or a
--- `Content-Length` that is not `0`, or the version is 1.1 and there is not exactly one `Host`
+-- A head is faulty if it announces a body, or does not name its host exactly once. It has a `Transfer-Encoding` or a
+-- `Content-Length` other than `0`, or the version is 1.1 and there is not exactly one `Host`.
 unfoldable pub is_faulty : ℕ → List (List ℕ × List ℕ) → Bool
 is_faulty minor lines =
     nat_lt 0 (length (values_of (codes "Transfer-Encoding") lines))

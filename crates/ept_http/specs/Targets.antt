@@ -23,7 +23,7 @@ abbrev pub IsHierarchyName : List ℕ → Type 0
 IsHierarchyName name =
     (key : VoxelKey) × IsKey key × (name ≡ codes "ept-hierarchy/" ++ (key_text key ++ codes ".json"))
 
--- a name of a file that is served
+-- the name of a file that is served
 abbrev pub IsServedName : List ℕ → Type 0
 IsServedName name = IsTextName name ⊎ (IsTileName name ⊎ IsHierarchyName name)
 
@@ -60,7 +60,7 @@ Names target (Query area first last) = IsQueryTarget target area first last
 Names target (Select area first last sift) = IsSelectTarget target area first last sift
 Names target (Refuse status) = ⊥
 
--- what a target asks for: what it names, and status 404 where it names nothing
+-- what a target asks for: what it names, or status 404 if it names nothing
 abbrev pub AsksFor : List ℕ → Asked → Type 0
 AsksFor target (File name) = Names target (File name)
 AsksFor target (Query area first last) = Names target (Query area first last)

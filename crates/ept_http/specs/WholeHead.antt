@@ -3,7 +3,7 @@ use Rattle.std.specs.Prelude.{ℕ, ◌≤◌, List, [], length, map}
 use Rattle.httparse.specs.Grammar.{RequestHead, ReadsRequest}
 use Rattle.httparse.specs.Spans.{name_and_value}
 
--- the bytes are this head, with no byte behind it, and it has at most 64 fields
+-- the bytes are this head, with no byte after it, and it has at most 64 fields
 pub record IsHead (bytes : List ℕ) (head : RequestHead) : Type 0 where
   pub reads : ReadsRequest bytes head []
   pub fits : length head.fields ≤ 64

@@ -1,14 +1,14 @@
-//! The heads of answers (RFC 9112, sections 4 to 6).
+//! The heads of responses (RFC 9112, sections 4 to 6).
 
 ghost use Rattle.std.specs.Prelude.{◌≡◌, ℕ, ◌+◌, ◌≤◌, ◌++◌, length, take, slice_index};
 ghost use Rattle.ept_http.specs.AnswerHead.{phrase_of, HasStatus, status_of, ends, status_line, allow_line, type_line, connection_line, length_line, head_text};
 
 use itoa::Buffer;
 
-/// The most bytes that a head is given room for.
+/// The room for a head, in bytes.
 const ROOM: usize = 256;
 
-/// What an answer is, as far as its head tells. `last` is whether the connection ends behind it.
+/// A response, as far as its head shows it. `last` is whether the connection ends after the response.
 #[derive(Clone, Copy, Debug, PartialEq, Eq)]
 pub enum HeadKind {
     /// A file with status 200: whether it is JSON, and how many bytes it has.
@@ -19,7 +19,7 @@ pub enum HeadKind {
     Refusal { status: u16, last: bool },
 }
 
-/// Writes the head of an answer into the front of `into`, and answers its length. It takes no memory.
+/// Writes the head of a response into the first bytes of `into`, and returns its length. It takes no memory.
 #[tactic(auto, unfolding(crate::specs::AnswerHead::head_text))]
 pub fn response_head(kind: &HeadKind, into: &mut [u8; 256]) -> usize
     requires { HasStatus kind.now }
@@ -37,7 +37,7 @@ pub fn response_head(kind: &HeadKind, into: &mut [u8; 256]) -> usize
 }
 
 impl HeadKind {
-    // The status of the answer.
+    // The status of the response.
     fn status(&self) -> u16
         ensures { result ≡ status_of self.now }
     {
@@ -47,7 +47,7 @@ impl HeadKind {
         }
     }
 
-    // Whether the connection ends behind the answer.
+    // Whether the connection ends after the response.
     fn is_last(&self) -> bool
         ensures { result ≡ ends self.now }
     {
@@ -59,7 +59,7 @@ impl HeadKind {
     }
 }
 
-// The phrase of a status, which is empty where no answer has it.
+// The phrase of a status; empty if no response has this status.
 fn phrase(status: u16) -> &'static [u8]
     ensures text { result.now ≡ phrase_of status }
     ensures len { length result.now ≤ 31 }
@@ -155,7 +155,7 @@ fn write_length(kind: &HeadKind, into: &mut [u8; 256], at: usize) -> usize
     }
 }
 
-// Writes bytes at a place, and answers the place behind them.
+// Writes bytes at a place, and returns the place after them.
 fn append(bytes: &[u8], into: &mut [u8; 256], at: usize) -> usize
     requires { at + length bytes.now ≤ ROOM }
     ensures text { take result into.new ≡ take at into.old ++ bytes.now }

@@ -11,8 +11,8 @@ pub enum Asked {
     File(Text),
     /// The points in a box, in stored units, of the depths from the first to the last.
     Query(Box3, u8, u8),
-    /// Of such points, those that pass a selection, each with the dimensions that it keeps.
+    /// The points of such a query that pass a selection, each with the dimensions that it keeps.
     Select(Box3, u8, u8, Sift),
-    /// Nothing that is served: the answer has this status (RFC 9110, section 15).
+    /// Nothing that is served. The response has this status (RFC 9110, section 15).
     Refuse(u16),
 }

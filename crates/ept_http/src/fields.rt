@@ -9,7 +9,7 @@ ghost use Rattle.ept_http.specs.Fields.{same_name, values_of, members, is_close,
 
 use httparse::spans::HeaderSpan;
 
-/// Whether the head announces a body, or does not name its host once.
+/// Whether the head announces a body or, in HTTP/1.1, does not name its host exactly once.
 #[tactic(auto, unfolding(crate::specs::Fields::is_faulty))]
 pub fn is_faulty(minor: u8, head: &[u8], lines: &[HeaderSpan]) -> bool
     requires { All (IsHeaderWithin (length head.now)) lines.now }
@@ -34,7 +34,7 @@ pub fn has_close(head: &[u8], lines: &[HeaderSpan]) -> bool
     false
 }
 
-// How many fields have a name.
+// The number of fields with this name.
 fn count_named(head: &[u8], lines: &[HeaderSpan], name: &[u8]) -> usize
     requires { All (IsHeaderWithin (length head.now)) lines.now }
     ensures { result ≡ length (values_of name.now (map (header_bytes head.now) lines.now)) }
@@ -48,7 +48,7 @@ fn count_named(head: &[u8], lines: &[HeaderSpan], name: &[u8]) -> usize
     count
 }
 
-// Whether a `Content-Length` is not `0`.
+// Whether some `Content-Length` is not `0`.
 fn has_length(head: &[u8], lines: &[HeaderSpan]) -> bool
     requires { All (IsHeaderWithin (length head.now)) lines.now }
     ensures { result ≡ list_any (λ value. not (bytes_eq value (codes "0")))
@@ -62,7 +62,7 @@ fn has_length(head: &[u8], lines: &[HeaderSpan]) -> bool
     false
 }
 
-// Whether a field has a name.
+// Whether a field has this name.
 fn is_named(head: &[u8], line: &HeaderSpan, name: &[u8]) -> bool
     requires { IsHeaderWithin (length head.now) line.now }
     ensures { result ≡ same_name (slice_range head.now line.now.name.start line.now.name.end) name.now }
@@ -70,7 +70,7 @@ fn is_named(head: &[u8], line: &HeaderSpan, name: &[u8]) -> bool
     line.name.of(head).eq_ignore_ascii_case(name)
 }
 
-// Whether a member of a list is `close`.
+// Whether some member of a list is `close`.
 fn has_close_member(value: &[u8]) -> bool
     ensures { result ≡ list_any is_close (members value.now) }
 {

@@ -1,7 +1,7 @@
-//! The heads of HTTP/1.1 requests for a dataset, and of their answers (RFC 9112).
+//! The heads of HTTP/1.1 requests for a dataset, and of their responses (RFC 9112).
 //!
-//! A request is a `GET` without a body for a file of the dataset, for a query or for a selection. What its head asks for
-//! is read here, from the bytes of the whole head; what it is answered with is the crate above.
+//! A request is a `GET` without a body for a file of the dataset, for a query or for a selection. This crate reads what
+//! a head asks for from the bytes of the whole head. The crate above responds to it.
 
 #![tactic(auto)]
 

@@ -13,8 +13,8 @@ use ept_space::Box3;
 /// The greatest depth that a query may name.
 const MAX_DEPTH: i64 = 32;
 
-/// The box of six whole numbers with commas between them: the least x, y and z, and then the greatest,
-/// in stored units. None where the text is another one, or a least number is above its greatest.
+/// Reads a box as six whole numbers with commas between them: the least x, y and z, and then the greatest, in stored
+/// units. Returns no box if the text is malformed, or if a least number is above its greatest.
 ///
 /// Each number has one spelling, so a box has one text.
 pub fn read_box(text: &[u8]) -> Option<Box3>
@@ -33,7 +33,7 @@ pub fn read_box(text: &[u8]) -> Option<Box3>
     })
 }
 
-// The box, where on no axis its least coordinate is above its greatest.
+// The box, if on no axis its least coordinate is above its greatest.
 fn ordered(area: Box3) -> Option<Box3>
     ensures some { IfSome result (λ given. (given ≡ area) × IsOrdered given) }
     ensures none { IfNone result (¬ IsOrdered area) }
@@ -57,8 +57,8 @@ fn is_at_most(least: i64, greatest: i64) -> bool
     least <= greatest
 }
 
-/// The first and the last depth of two whole numbers with a comma between them, each from 0 to 32 and
-/// the first not above the last. None where the text is another one.
+/// Reads the first and the last depth as two whole numbers with a comma between them. Each is from 0 to 32, and the
+/// first is not above the last. Returns no depths for any other text.
 pub fn read_depths(text: &[u8]) -> Option<(u8, u8)>
     ensures some { IfSome result (λ depths. IsDepthsText text.now depths.0 depths.1) }
     ensures none { IfNone result ((first last : ℕ) → ¬ IsDepthsText text.now first last) }
@@ -68,7 +68,7 @@ pub fn read_depths(text: &[u8]) -> Option<(u8, u8)>
     depths_of(first, last)
 }
 
-// The two depths, where they are ones that a query may name.
+// The two depths, if a query may name them.
 fn depths_of(first: i64, last: i64) -> Option<(u8, u8)>
     ensures some { IfSome result (λ depths. (first ≡ pos depths.0) × (last ≡ pos depths.1) × (depths.0 ≤ depths.1) × (depths.1 ≤ 32)) }
     ensures none { IfNone result ((m n : ℕ) → first ≡ pos m → last ≡ pos n → m ≤ n → n ≤ 32 → ⊥) }
@@ -90,7 +90,7 @@ fn next_whole(text: &[u8]) -> Option<(i64, &[u8])>
     Some((number, rest))
 }
 
-/// What stands before the first such byte, and what follows it.
+/// The bytes before the first `mark`, and the bytes that follow it.
 pub(crate) fn split_once(text: &[u8], mark: u8) -> Option<(&[u8], &[u8])>
     ensures some { IfSome result (λ r. text.now ≡ r.0.now ++ mark ∷ r.1.now) }
     ensures found { (front rest : List ℕ) → AllByRecursion (λ b. b ≢ mark) front → text.now ≡ front ++ mark ∷ rest

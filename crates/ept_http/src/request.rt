@@ -18,12 +18,12 @@ use std::alloc::Global;
 /// The most fields that a head may have.
 const MAX_FIELDS: usize = 64;
 
-/// What the head of a request asks for, and whether the connection ends behind the answer: where the
-/// answer's status ends it, or a `Connection` field has the member `close`.
+/// Returns what the head of a request asks for, and whether the connection ends after the response. It ends if the
+/// status of the response ends it, or if a `Connection` field has the member `close`.
 ///
 /// # Errors
 ///
-/// Want of memory for the name of a file.
+/// Memory ran out for the name of a file.
 pub fn read_request(alloc: Global, head: &[u8]) -> Result<(Asked, bool), Memory>
     ensures ok { IfOk result (λ answer. IsAnswer head.now answer.0 answer.1) }
     ensures memory { OnErr result ((name : List ℕ) × (last : Bool) × IsAnswer head.now (Asked.File name) last) }
@@ -38,7 +38,7 @@ pub fn read_request(alloc: Global, head: &[u8]) -> Result<(Asked, bool), Memory>
     Ok((asked, last))
 }
 
-// Where the parts of the head are that the bytes are, all of them.
+// The spans of the head's parts, if all the bytes are one head.
 fn whole_head(head: &[u8], lines: &mut [HeaderSpan; 64]) -> Option<RequestSpans>
     ensures within { IfSome result (IsRequestWithin head.now lines.new) }
     ensures len { IfSome result (λ found. found.len ≡ length head.now) }
@@ -69,7 +69,7 @@ fn asked_in(
     }
 }
 
-// The status with which the head is refused before its target is looked at.
+// The status with which the head is refused before its target is read.
 #[tactic(auto, unfolding(crate::specs::Answers::refusal_of))]
 fn refusal(head: &[u8], lines: &[HeaderSpan; 64], found: &RequestSpans) -> Option<u16>
     requires within { IsRequestWithin head.now lines.now found.now }
@@ -87,7 +87,7 @@ fn refusal(head: &[u8], lines: &[HeaderSpan; 64], found: &RequestSpans) -> Optio
     }
 }
 
-// Whether the status of the answer ends the connection.
+// Whether the status of the response ends the connection.
 fn is_last(asked: &Asked) -> bool
     ensures { result ≡ is_last asked.now }
 {
@@ -97,7 +97,7 @@ fn is_last(asked: &Asked) -> bool
     }
 }
 
-// Whether a connection ends behind a status.
+// Whether a connection ends after a response with this status.
 fn closes(status: u16) -> bool
     ensures { result ≡ closes status }
 {

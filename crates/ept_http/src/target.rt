@@ -17,11 +17,11 @@ use ept_space::{Box3, Key, read_key};
 use std::alloc::Global;
 use std::str;
 
-/// What a target asks for: status 404 where it names nothing that is served.
+/// What a target asks for, or status 404 if it names nothing that is served.
 ///
 /// # Errors
 ///
-/// Want of memory for the name of a file.
+/// Memory ran out for the name of a file.
 pub fn asked_of(alloc: Global, target: &[u8]) -> Result<Asked, Memory>
     ensures ok { IfOk result (AsksFor target.now) }
     ensures memory { OnErr result ((name : List ℕ) × AsksFor target.now (Asked.File name)) }
@@ -39,7 +39,7 @@ pub fn asked_of(alloc: Global, target: &[u8]) -> Result<Asked, Memory>
     Ok(Asked::Refuse(404))
 }
 
-// The name behind the slash, where a file of that name is served.
+// The name after the slash, if a file of that name is served.
 fn served_name(target: &[u8]) -> Option<&str>
     ensures some { IfSome result (λ name. (target.now ≡ codes "/" ++ name.now) × IsServedName name.now) }
     ensures none { IfNone result ((name : List ℕ) → target.now ≡ codes "/" ++ name → ¬ IsServedName name) }
@@ -71,7 +71,7 @@ fn is_text_name(name: &[u8]) -> bool
         || name == b"ept-sources/manifest.json".as_slice()
 }
 
-// The key whose text stands between two others.
+// The key whose text is between two others.
 fn key_between(name: &[u8], front: &[u8], back: &[u8]) -> Option<Key>
     ensures some { IfSome result (λ key. IsKey key × (name.now ≡ front.now ++ (key_text key ++ back.now))) }
     ensures none { IfNone result ((key : VoxelKey) → IsKey key → name.now ≢ front.now ++ (key_text key ++ back.now)) }
@@ -117,7 +117,7 @@ fn select_of(target: &[u8]) -> Option<(Box3, u8, u8, Sift)>
     Some((area, first, last, sift))
 }
 
-// The selection that its words ask for.
+// The selection that these words ask for.
 fn sift_of(words: &[u8]) -> Option<Sift>
     ensures some { IfSome result (AreSiftWords words.now) }
     ensures none { IfNone result ((sift : Sift) → ¬ AreSiftWords words.now sift) }
@@ -127,7 +127,7 @@ fn sift_of(words: &[u8]) -> Option<Sift>
     read_sift(classes, time, dims)
 }
 
-// The word before the first `&`, and what stands behind the key that has to follow.
+// The word before the first `&`, and what follows the key after it.
 fn word_before<'a>(text: &'a [u8], key: &[u8]) -> Option<(&'a [u8], &'a [u8])>
     ensures some { IfSome result (λ r. text.now ≡ r.0.now ++ 38 ∷ (key.now ++ r.1.now)) }
     ensures found { (word rest : List ℕ) → AllByRecursion (λ b. b ≢ 38) word → text.now ≡ word ++ 38 ∷ (key.now ++ rest)
@@ -138,14 +138,14 @@ fn word_before<'a>(text: &'a [u8], key: &[u8]) -> Option<(&'a [u8], &'a [u8])>
     Some((word, rest))
 }
 
-// What stands behind a front.
+// What follows a prefix.
 fn behind<'a>(text: &'a [u8], front: &[u8]) -> Option<&'a [u8]>
     ensures { MatchOption result ((rest : List ℕ) → text.now ≢ front.now ++ rest) (λ rest. text.now ≡ front.now ++ rest.now) }
 {
     text.strip_prefix(front)
 }
 
-// What stands before a back.
+// What precedes a suffix.
 fn before<'a>(text: &'a [u8], back: &[u8]) -> Option<&'a [u8]>
     ensures { MatchOption result ((rest : List ℕ) → text.now ≢ rest ++ back.now) (λ rest. text.now ≡ rest.now ++ back.now) }
 {

@@ -10,7 +10,7 @@ one-number m n text fits_m fits_n a b = signed_decimal_injective m n fits_m.sfit
 pub small-count : (n : ℕ) → n < 2 ^ 32 → FitsSigned w64 (pos n)
 small-count n small = record { sfits = omega arith }
 
--- what is known where nothing comes, seen in another way
+-- what is known if there is no result, stated in another way
 pub if-none : {T : Type 0} (r : Option T) (P Q : Type 0) → IfNone r P → (P → Q) → IfNone r Q
 if-none None P Q h f = f h
 if-none (Some x) P Q h f = tt

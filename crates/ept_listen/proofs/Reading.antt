@@ -1,4 +1,4 @@
--- What words are read as, by how many they are.
+-- What words are read as, by their number.
 use Rattle.std.proofs.Common.{◌≡◌, ◌≢◌, ◌∙◌, ◌⊎◌, inl, inr, ℕ, List, [], ◌∷◌, length, ◌+◌, Bool, true, false, Option, Some, None, sym, ap, subst, arith}
 use Rattle.ept_listen.specs.declared.words.Serve.{Serve}
 use Rattle.ept_listen.specs.Words.{ArePlace, AskForCount, AreSingle, AskForIn, AreRead, AreReadPlain, AreReadSingle}

@@ -23,7 +23,7 @@ pub record AreLimited (words : List (List ℕ)) (count : ℕ) : Type 0 where
   pub fits : count < 2 ^ 32
   pub place_is : ArePlace place
 
--- what words without `--single` ask for: to serve connections without end, or so many
+-- what words without `--single` ask for: to serve connections without end, or `count` of them
 abbrev pub AskForCount : List (List ℕ) → Option ℕ → Type 0
 AskForCount words None = ArePlace words
 AskForCount words (Some count) = AreLimited words count
@@ -42,7 +42,7 @@ AskForIn words true count = AreSingle words count
 abbrev pub AskFor : List (List ℕ) → Serve → Type 0
 AskFor words serve = AskForIn words serve.single serve.connections
 
--- what words are read as: what they ask for, and none exactly where they ask for nothing
+-- what words are read as: what they ask for, and nothing if and only if they ask for nothing
 abbrev pub AreRead : List (List ℕ) → Option Serve → Type 0
 AreRead words None = (serve : Serve) → ¬ AskFor words serve
 AreRead words (Some serve) = AskFor words serve

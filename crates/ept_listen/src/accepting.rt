@@ -1,13 +1,16 @@
-//! What is done where accepting a connection fails.
+//! What is done if accepting a connection fails.
 
 use std::io::Error;
 
-/// How long the system has to find room for a connection before it is asked again, in milliseconds.
+/// The time that the system has to find room for a connection before it is asked again, in milliseconds.
 pub(crate) const PAUSE: u64 = 50;
 
-/// The system's errors after which another connection can be accepted: there is no room for one more connection (ENOMEM,
-/// ENFILE, EMFILE, ENOBUFS), a signal came (EINTR), or what failed is the new connection (EPROTO, ECONNABORTED, ENONET,
-/// ENOPROTOOPT, EOPNOTSUPP, ENETDOWN, ENETUNREACH, EHOSTDOWN, EHOSTUNREACH).
+/// The system's errors after which another connection can be accepted:
+///
+/// - There is no room for one more connection: ENOMEM, ENFILE, EMFILE, ENOBUFS.
+/// - A signal came: EINTR.
+/// - The new connection failed: EPROTO, ECONNABORTED, ENONET, ENOPROTOOPT, EOPNOTSUPP, ENETDOWN, ENETUNREACH,
+///   EHOSTDOWN, EHOSTUNREACH.
 const PASSING: [i32; 14] = [12, 23, 24, 105, 4, 71, 103, 64, 92, 95, 100, 101, 112, 113];
 
 /// Whether another connection can be accepted after this error.

@@ -1,5 +1,5 @@
-//! The words of the server's command line, and the connections that a listener accepts: each in a thread of its own, or
-//! all on one thread.
+//! The words of the server's command line, and the connections that a listener accepts. Each connection has a thread of
+//! its own, or all are on one thread.
 #![tactic(auto)]
 
 mod accepting;

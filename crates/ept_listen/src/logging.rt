@@ -18,7 +18,7 @@ pub(crate) fn log_of(
     Some(Log::new(host, alloc, name.ok()?))
 }
 
-/// The word for the end of a connection. Its last response was sent whole if it was closed.
+/// The word for the end of a connection. If the connection was closed, its last response was sent whole.
 pub(crate) fn how_ended(end: End) -> &'static str {
     match end {
         End::Closed => "sent",

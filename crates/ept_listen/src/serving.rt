@@ -14,23 +14,26 @@ use std::sync::atomic::Ordering::SeqCst;
 use std::thread::{self, Threads};
 use std::time::{Duration, Instant};
 
-/// How many connections are served at once at most. The others wait to be accepted.
+/// The most connections that are served at once. The others wait to be accepted.
 const MOST: u32 = 1024;
 
-/// How many bytes are read after the last response at most.
+/// The most bytes that are read after the last response.
 const REST: usize = 524_288;
 
-/// How long it may take to send them, and how long each piece may take, in seconds.
+/// How long all of these bytes may take, and how long each piece of them may take, in seconds.
 const REST_SECONDS: u64 = 5;
 
-/// Serves the connections that are accepted, each in a thread of its own and with a store of its own over
-/// the folder `out`, at most 1,024 at once: without end, or so many. It returns once all of them have ended. Then and
-/// after an error it no longer listens. If it logs, each request becomes a line on standard error.
+/// Serves the connections that are accepted, at most 1,024 at once. Each has a thread of its own, and a store of its
+/// own over the folder `out`.
+///
+/// It serves `connections` of them, or serves without end if that is `None`. It stops listening when it has accepted
+/// the last one, or after an error. It returns once all of them have ended. If `logs` is true, each request becomes a
+/// line on standard error.
 ///
 /// # Errors
 ///
-/// That of an accept that failed for another cause than that the peer has gone or that there is no room for
-/// one more connection: then it is tried again.
+/// The error of an accept. An accept that fails because the peer has gone, or because there is no room for one more
+/// connection, is tried again.
 pub fn serve_connections<R: Threads + Wait>(
     rt: &R,
     host: &HostRuntime,
@@ -58,7 +61,7 @@ pub fn serve_connections<R: Threads + Wait>(
     })
 }
 
-// The next connection, once there is room for it. It counts as served.
+// Accepts the next connection, once there is room for it. It counts as served.
 fn accept(host: &HostRuntime, listener: &TcpListener, served: &AtomicU32) -> io::Result<TcpStream> {
     wait_for_room(host, served);
     let stream = accept_next(host, listener)?;
@@ -92,7 +95,7 @@ fn pause(host: &HostRuntime) {
 // Serves one connection.
 fn serve_stream(host: &HostRuntime, stream: &TcpStream, out: &str, logs: bool) {
     let alloc = host.alloc();
-    // Without it small answers may wait for the peer.
+    // Without it small responses may wait for the peer.
     let _ = stream.set_nodelay(true);
     let mut store = ReadStore::new(alloc, RealFiles::new(host), out);
     let log = if logs {
@@ -106,8 +109,8 @@ fn serve_stream(host: &HostRuntime, stream: &TcpStream, out: &str, logs: bool) {
     let _ = finish(host, stream);
 }
 
-// Ends the sending side, and reads what the peer still sends, so much and for so long at most: a connection that is
-// closed over bytes that were not read may lose its last answer.
+// Ends the sending side, and reads what the peer still sends, at most `REST` bytes and for a limited time. A connection
+// that is closed over unread bytes may lose its last response.
 fn finish(host: &HostRuntime, stream: &TcpStream) -> io::Result<()> {
     stream.shutdown(Shutdown::Write)?;
     let time = Duration::from_secs(REST_SECONDS);

@@ -23,20 +23,22 @@ use tokio::net::{TcpListener, TcpStream};
 use tokio::runtime::LocalRuntime;
 use tokio::time::{Handle, Sleep};
 
-/// How many connections are served at once at most.
+/// The most connections that are served at once.
 const MOST: u32 = 256;
 
-/// How many units of work a connection does in one turn at most.
+/// The most units of work that a connection does in one turn.
 const TURNS: u32 = 64;
 
-/// Serves the connections that are accepted on this one thread, at most 256 at once and each with a store of its own
-/// over the folder `out`: without end, or so many. It returns once all of them have ended. If it logs, each request becomes
-/// a line on standard error.
+/// Serves the connections that are accepted on this one thread, at most 256 at once. Each has a store of its own over
+/// the folder `out`.
+///
+/// It serves `connections` of them, or serves without end if that is `None`. It returns once all of them have ended. If
+/// `logs` is true, each request becomes a line on standard error.
 ///
 /// # Errors
 ///
-/// That of an accept that failed for another cause than that the peer has gone or that there is no room for one more
-/// connection: then it is tried again.
+/// The error of an accept. An accept that fails because the peer has gone, or because there is no room for one more
+/// connection, is tried again.
 pub fn serve_single<R>(
     rt: &R,
     host: &HostRuntime,
@@ -102,7 +104,7 @@ impl Pause {
         }
     }
 
-    // Ready if it is over, or was not begun.
+    // Ready if the pause is over, or was not begun.
     fn poll_over(&mut self, cx: &mut Context<'_>) -> Poll<()>
         ensures armed { OnPending result (IsArmed cx.new) }
         ensures kept { Keeps cx.old cx.new }
@@ -126,7 +128,7 @@ type Watched<'a, R> = WatchedLink<'a, Link<'a, R>, HostRuntime>;
 
 type Folder<'a> = ReadStore<'a, RealFiles<'a, HostRuntime>>;
 
-// What is accepted and served.
+// The connections that are accepted and served.
 #[derive(Drop)]
 struct Serving<'a, R> {
     clock: &'a R,
@@ -134,15 +136,15 @@ struct Serving<'a, R> {
     out: &'a str,
     logs: bool,
     timers: Handle,
-    // None, and so closed, where no more are accepted.
+    // `None` if no more connections are accepted. The listener is closed then.
     listener: Option<TcpListener>,
-    // How many are still to be accepted.
+    // The number of connections that are still to be accepted.
     left: u64,
     pause: Pause,
-    // Why no more are accepted, where accepting failed.
+    // Why no more connections are accepted, if accepting failed.
     fault: Option<io::Error>,
     crowd: Crowd<Watched<'a, R>, Folder<'a>>,
-    // Connections that have ended, of which the rest is read.
+    // Connections that have ended. What their peers still send is read.
     closing: Vec<Link<'a, R>>,
 }
 
@@ -151,7 +153,7 @@ impl<'a, R: Clock> Serving<'a, R> {
         self.crowd.live() >= MOST
     }
 
-    // Accepts connections while they come and there is room. Ready if no other is waited for.
+    // Accepts connections while they come and there is room. Ready if no other connection is waited for.
     fn accept_all(&mut self, cx: &mut Context<'_>) -> Poll<()>
         ensures armed { OnPending result (IsArmed cx.new) }
         ensures kept { Keeps cx.old cx.new }
@@ -168,7 +170,7 @@ impl<'a, R: Clock> Serving<'a, R> {
         cx.yield_now()
     }
 
-    // Waits for the next connection, and takes it up.
+    // Waits for the next connection, and begins to serve it.
     fn accept_one(&mut self, cx: &mut Context<'_>) -> Poll<()>
         ensures armed { OnPending result (IsArmed cx.new) }
         ensures kept { Keeps cx.old cx.new }
@@ -194,13 +196,13 @@ impl<'a, R: Clock> Serving<'a, R> {
         Poll::Ready(())
     }
 
-    // Serves a connection from now on. One for which there is no memory is closed.
+    // Serves a connection from now on. A connection for which there is no memory is closed.
     fn take_up(&mut self, stream: TcpStream) {
         self.left = self.left.saturating_sub(1);
         if self.left == 0 {
             self.listener = None;
         }
-        // Without it small answers may wait for the peer.
+        // Without it small responses may wait for the peer.
         let _ = stream.set_nodelay(true);
         let log = if self.logs {
             log_of(self.host, stream.peer_addr())
@@ -218,7 +220,7 @@ impl<'a, R: Clock> Serving<'a, R> {
         let _ = self.crowd.add(PollConn::new(alloc, link, store, TURNS));
     }
 
-    // Accepting failed: it is tried again after a pause, or the listener is closed.
+    // Handles a failed accept: it is tried again after a pause, or the listener is closed.
     fn refused(&mut self, error: io::Error) {
         if is_passing(&error) {
             self.pause.begin(self.clock);
@@ -250,7 +252,7 @@ impl<'a, R: Clock> Serving<'a, R> {
         let _ = self.closing.push(link);
     }
 
-    // Reads what the peers of connections that have ended still send. Ready if none is left.
+    // Reads what the peers of connections that have ended still send. Ready if no such connection is left.
     fn close_all(&mut self, cx: &mut Context<'_>) -> Poll<()>
         ensures armed { OnPending result (IsArmed cx.new) }
         ensures kept { Keeps cx.old cx.new }
@@ -264,7 +266,7 @@ impl<'a, R: Clock> Serving<'a, R> {
     }
 }
 
-// Reads the rest of a connection. Pending if it waits, or others do.
+// Reads the rest of a connection. Pending if this connection waits, or the others do.
 fn poll_rest<R: Clock>(link: &mut Link<'_, R>, others: Poll<()>, cx: &mut Context<'_>) -> Poll<()>
     requires { OnPending others (IsArmed cx.old) }
     ensures armed { OnPending result (IsArmed cx.new) }
@@ -279,8 +281,8 @@ fn poll_rest<R: Clock>(link: &mut Link<'_, R>, others: Poll<()>, cx: &mut Contex
 impl<'a, R: Clock> Future for Serving<'a, R> {
     type Output = io::Result<()>;
 
-    // Accepts what comes, gives each connection a turn, and reads the rest of those that have ended. Ready once so many
-    // were accepted, or accepting has failed, and all have ended.
+    // Accepts what comes, gives each connection a turn, and reads the rest of those that have ended. It is ready once
+    // no more connections are accepted and all have ended.
     fn poll(&mut self, cx: &mut Context<'_>) -> Poll<io::Result<()>> {
         let accepting = self.accept_all(cx);
         let was_full = self.is_full();

@@ -1,4 +1,4 @@
-//! A connection whose peer may take only so long.
+//! A connection whose peer may take only a limited time.
 
 use std::io::{self, ErrorKind, Read, Write};
 use std::net::TcpStream;
@@ -7,21 +7,20 @@ use std::time::{Duration, Instant};
 /// How long a peer may take until the first byte of a request, and until it takes a byte of a response, in seconds.
 const IDLE: u64 = 60;
 
-/// How long a peer may take from the first byte of a request until its head is whole, in seconds.
+/// How long a peer may take from the first byte of a request until its head is complete, in seconds.
 const HEAD: u64 = 30;
 
-/// How often a call that a signal stopped is tried again.
+/// How often a call that a signal interrupted is tried again.
 const TRIES: u32 = 1000;
 
-/// A stream whose reads and writes fail where its peer takes too long. A head is known to be whole by the write that
-/// comes next.
+/// A stream whose reads and writes fail if its peer takes too long. The next write shows that a head is complete.
 #[derive(Drop)]
 pub(crate) struct TimedStream<'a> {
     host: &'a HostRuntime,
     stream: &'a TcpStream,
     // When the first byte of a head came.
     head: Option<Instant>,
-    // Whether a read may take less than `IDLE`.
+    // Whether the limit of a read may be less than `IDLE`.
     is_short: bool,
 }
 
@@ -57,7 +56,7 @@ impl<'a> TimedStream<'a> {
         self.stream.set_read_timeout(Some(left))
     }
 
-    // Some bytes of a head came, which may be its first.
+    // Notes that bytes of a head came, which may be its first.
     fn note_head(&mut self) -> io::Result<()> {
         if self.head.is_none() {
             self.head = Some(Instant::now(self.host)?);
@@ -65,7 +64,7 @@ impl<'a> TimedStream<'a> {
         Ok(())
     }
 
-    // No head is waited for. Most come in one read, whose time was not changed.
+    // Notes that no head is waited for. Most heads come in one read, whose limit was not changed.
     fn forget_head(&mut self) -> io::Result<()> {
         self.head = None;
         if !self.is_short {

@@ -5,19 +5,19 @@ ghost use Rattle.ept_listen.specs.Words.{bytes_of, ArePlace, AreRead, AreReadPla
 
 use ept_num::read_whole;
 
-/// How many connections may be asked for at most.
+/// The most connections that may be asked for.
 const MOST: i64 = 4_294_967_295;
 
-/// What the words ask for: to serve connections without end, or so many, and whether one thread serves them all.
+/// What the words ask for. `connections` is the number of connections to serve, or `None` to serve without end.
+/// `single` is whether one thread serves them all.
 #[derive(Clone, Copy, Debug, PartialEq, Eq)]
 pub struct Serve {
     pub connections: Option<u32>,
     pub single: bool,
 }
 
-/// What these words, which follow the program's name, ask for: `OUT ADDRESS`, after `--connections N` where
-/// only so many connections are served, and after `--single` where one thread serves them all. None for any
-/// other words.
+/// What these words, which follow the program's name, ask for. They are `OUT ADDRESS`, after `--connections N` if only
+/// N connections are served, and after `--single` if one thread serves them all. Returns nothing for any other words.
 pub fn server_words(words: &[String]) -> Option<Serve>
     ensures { AreRead (bytes_of words.now) result }
 {
@@ -32,7 +32,7 @@ pub fn server_words(words: &[String]) -> Option<Serve>
     }
 }
 
-// What words ask for whose first is to be `--single`; the others were read as this.
+// What words ask for whose first has to be `--single`. `others` is what the words after it were read as.
 fn read_single(single: &str, others: Option<Serve>) -> Option<Serve>
     ensures { (words : List (List ℕ)) → AreReadPlain words others → AreReadSingle (single.now ∷ words) result }
 {
@@ -80,7 +80,7 @@ fn are_place(out: &str, address: &str) -> bool
     !out.is_empty() && !address.is_empty()
 }
 
-// The number of connections that a word is.
+// The number of connections that a word spells.
 fn read_count(word: &str) -> Option<u32>
     ensures some { IfSome result (λ n. (word.now ≡ decimal n) × (0 < n) × (n < 2 ^ 32)) }
     ensures none { IfNone result ((n : ℕ) → 0 < n → n < 2 ^ 32 → word.now ≢ decimal n) }
@@ -89,7 +89,7 @@ fn read_count(word: &str) -> Option<u32>
     count_of(whole)
 }
 
-// The number, where it is one of connections.
+// The number, if it may be a number of connections.
 fn count_of(whole: i64) -> Option<u32>
     ensures some { IfSome result (λ n. (whole ≡ pos n) × (0 < n) × (n < 2 ^ 32)) }
     ensures none { IfNone result ((n : ℕ) → whole ≡ pos n → 0 < n → n < 2 ^ 32 → ⊥) }

@@ -1,4 +1,4 @@
--- What a link that is watched passes its bytes to.
+-- What a watched link passes its bytes to.
 use Rattle.ept_log.specs.declared.watched.WatchedLink.{WatchedLink}
 
 -- the link below

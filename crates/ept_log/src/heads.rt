@@ -2,7 +2,7 @@
 
 ghost use Rattle.std.specs.Prelude.{◌≤◌, length};
 
-/// How many bytes of a target a line has at most.
+/// The most bytes of a target that a line has.
 const MOST: usize = 256;
 
 /// The length of the head that these bytes begin with: up to its first empty line, or all of them if it has none.
@@ -17,7 +17,7 @@ pub(crate) fn end_of_head(bytes: &[u8]) -> usize
     bytes.len()
 }
 
-// Where the first line begins that is not empty.
+// Where the first line that is not empty begins.
 fn start_of_head(bytes: &[u8]) -> usize
     ensures { result ≤ length bytes.now }
 {
@@ -29,7 +29,7 @@ fn start_of_head(bytes: &[u8]) -> usize
     bytes.len()
 }
 
-/// The target of the request of this head, the second word of its first line, as far as 256 bytes.
+/// The target in this head of a request: the second word of its first line, at most 256 bytes.
 pub(crate) fn target_of(head: &[u8]) -> &[u8] {
     let line = word_of(&head[start_of_head(head)..], b"\r\n");
     let method = word_of(line, b" ");
@@ -40,7 +40,7 @@ pub(crate) fn target_of(head: &[u8]) -> &[u8] {
     &target[..target.len().min(MOST)]
 }
 
-// The bytes in front of the first one that is among these.
+// The bytes before the first one that is among `ends`.
 fn word_of<'a>(bytes: &'a [u8], ends: &[u8]) -> &'a [u8] {
     for at in 0..bytes.len() {
         if ends.contains(&bytes[at]) {
@@ -50,7 +50,7 @@ fn word_of<'a>(bytes: &'a [u8], ends: &[u8]) -> &'a [u8] {
     bytes
 }
 
-/// The status of the response that begins with these bytes. No response begins with a chunk, which begins with its length.
+/// The status of the response that begins with these bytes. A chunk begins with its length, so it begins no response.
 pub(crate) fn status_of(bytes: &[u8]) -> Option<&str> {
     let rest = bytes.strip_prefix(b"HTTP/1.1 ")?;
     str::from_utf8(word_of(rest, b" ")).ok()

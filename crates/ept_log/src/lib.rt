@@ -1,4 +1,5 @@
-//! A line a request: links that watch the bytes that pass, and report each request and its response on standard error.
+//! One line per request: links that watch the bytes that pass, and report each request and its response on standard
+//! error.
 #![tactic(auto)]
 
 mod heads;

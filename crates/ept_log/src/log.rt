@@ -4,16 +4,16 @@ use crate::heads::{end_of_head, status_of, target_of};
 use std::alloc::{AllocError, Global};
 use std::time::{Clock, Instant};
 
-/// The requests of one connection, each of which becomes a line on standard error as its response ends.
+/// The requests of one connection. Each becomes a line on standard error when its response ends.
 ///
 /// A line has six words:
 ///
-/// - the peer;
-/// - the target, in printable ASCII, with `?` for any other byte, and cut after 256;
-/// - the status of the response;
-/// - how many bytes of the response were passed to the system;
-/// - how many milliseconds that took, from the last bytes that came of requests;
-/// - how the response ended.
+/// - The peer.
+/// - The target, in printable ASCII, with `?` for any other byte, and cut after 256.
+/// - The status of the response.
+/// - The number of bytes of the response that were passed to the system.
+/// - The milliseconds that this took, from the last bytes of requests that came.
+/// - How the response ended.
 ///
 /// If memory runs out, a line may be missing.
 #[derive(Drop)]
@@ -21,7 +21,7 @@ pub struct Log<'a, R> {
     rt: &'a R,
     alloc: Global,
     peer: String,
-    // What came of requests to which no response has begun, and when the last of it came.
+    // The bytes of requests to which no response has begun, and when the last of them came.
     came: Vec<u8>,
     since: Option<Instant>,
     response: Option<Response>,
@@ -38,7 +38,7 @@ struct Response {
 }
 
 impl<'a, R: Eprint + Clock> Log<'a, R> {
-    /// The requests of the connection to this peer, of which none has come.
+    /// The log of a connection to this peer, over which no request has come.
     pub fn new(rt: &'a R, alloc: Global, peer: String) -> Self {
         Log {
             rt,
@@ -51,18 +51,18 @@ impl<'a, R: Eprint + Clock> Log<'a, R> {
         }
     }
 
-    /// The server is about to read, so each response that has begun is sent.
+    /// Notes that the server is about to read, so each response that has begun is sent.
     pub(crate) fn reads(&mut self) {
         self.finish("sent");
     }
 
-    /// These bytes came.
+    /// Notes bytes that came.
     pub(crate) fn came(&mut self, bytes: &[u8]) {
         self.since = Instant::now(self.rt).ok();
         let _ = self.came.extend_from_slice(bytes);
     }
 
-    /// This number of bytes of a piece were sent. A response begins at the start of a piece.
+    /// Notes that this number of bytes of a piece was sent. A response begins at the start of a piece.
     pub(crate) fn sent(&mut self, piece: &[u8], count: usize) {
         if !self.is_within {
             self.note_start(piece);
@@ -73,7 +73,7 @@ impl<'a, R: Eprint + Clock> Log<'a, R> {
         }
     }
 
-    // A piece is sent, with which a response may begin.
+    // Notes the start of a piece, with which a response may begin.
     fn note_start(&mut self, piece: &[u8]) {
         if let Some(status) = status_of(piece) {
             self.finish("sent");
@@ -81,7 +81,7 @@ impl<'a, R: Eprint + Clock> Log<'a, R> {
         }
     }
 
-    /// The connection ended so. A request that has no response becomes a line too, with `-` for its status.
+    /// Notes how the connection ended. A request that has no response becomes a line too, with `-` for its status.
     pub(crate) fn end(&mut self, how: &str) {
         if self.response.is_none() && !self.came.is_empty() && how != "sent" {
             self.response = self.begin("-").ok();
@@ -89,7 +89,7 @@ impl<'a, R: Eprint + Clock> Log<'a, R> {
         self.finish(how);
     }
 
-    // The response to the first request that has come.
+    // Begins the response to the first request that has come.
     fn begin(&mut self, status: &str) -> Result<Response, AllocError> {
         let end = end_of_head(&self.came);
         let response = Response {
@@ -107,7 +107,7 @@ impl<'a, R: Eprint + Clock> Log<'a, R> {
             return;
         };
         if let Ok(line) = self.line_of(&response, how) {
-            // There is nobody to report to that a line can't be written.
+            // There is nobody to report to if a line can't be written.
             let _ = self.rt.eprint(line);
         }
     }
@@ -123,7 +123,7 @@ impl<'a, R: Eprint + Clock> Log<'a, R> {
         format!(in self.alloc; "{peer} {target} {status} {bytes} {time} {how}\n")
     }
 
-    // How many milliseconds ago the last bytes came.
+    // The number of milliseconds since the last bytes came.
     fn time(&self) -> u64 {
         match self.since.map(|since| since.elapsed(self.rt)) {
             Some(Ok(time)) => u64::try_from(time.as_millis()).unwrap_or(u64::MAX),
@@ -132,7 +132,7 @@ impl<'a, R: Eprint + Clock> Log<'a, R> {
     }
 }
 
-// Bytes as printable ASCII, with `-` for none.
+// Bytes as printable ASCII; `-` if there are no bytes.
 fn printable(alloc: Global, bytes: &[u8]) -> Result<String, AllocError> {
     let mut text = String::new(alloc);
     for byte in bytes {

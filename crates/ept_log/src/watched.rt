@@ -8,7 +8,7 @@ use ept_poll::PollLink;
 use futures::task::{Context, Poll};
 use std::time::Clock;
 
-/// A link whose requests are logged, or one as it is, where there is no log. The bytes pass unchanged.
+/// A link whose requests are logged, or a link as it is, if there is no log. The bytes pass unchanged.
 #[derive(Drop)]
 pub struct WatchedLink<'a, L, R> {
     link: L,
@@ -25,7 +25,8 @@ impl<'a, L, R: Eprint + Clock> WatchedLink<'a, L, R> {
         WatchedLink { link, log }
     }
 
-    /// The link, of a connection that ended so: `sent` if the last response was sent whole.
+    /// Ends the log, and returns the link. `how` is how the connection ended: `sent` if the last response was sent
+    /// whole.
     pub fn end(self, how: &str) -> L
         ensures { result ≡ watched self.entry }
     {
@@ -37,21 +38,21 @@ impl<'a, L, R: Eprint + Clock> WatchedLink<'a, L, R> {
     }
 }
 
-// A read comes.
+// Notes a read.
 fn note_read<R: Eprint + Clock>(log: &mut Option<Log<'_, R>>) {
     if let Some(log) = log {
         log.reads();
     }
 }
 
-// These bytes came.
+// Notes bytes that came.
 fn note_came<R: Eprint + Clock>(log: &mut Option<Log<'_, R>>, bytes: &[u8]) {
     if let Some(log) = log {
         log.came(bytes);
     }
 }
 
-// This number of these bytes were sent.
+// Notes that this number of these bytes was sent.
 fn note_sent<R: Eprint + Clock>(log: &mut Option<Log<'_, R>>, piece: &[u8], count: usize) {
     if let Some(log) = log {
         log.sent(piece, count);

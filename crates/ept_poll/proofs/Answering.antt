@@ -1,4 +1,4 @@
--- What has gone out of a connection that stands, by what it wants.
+-- What has gone out of a connection since it was made, by what it wants.
 use Rattle.std.proofs.Common.{◌≡◌, ℕ, List, [], ◌∷◌, take, Some, refl, sym, subst, arith}
 use Rattle.std.specs.List.{AllByRecursion}
 use Rattle.ept_base.specs.Causes.{Rose}

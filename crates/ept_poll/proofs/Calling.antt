@@ -1,4 +1,4 @@
--- What one call of a link is as a unit, and what the answer of a poll says.
+-- What one call of a link is as a unit, and what the result of a poll says.
 use Rattle.std.proofs.Common.{◌≡◌, ◌∙◌, ◌<◌, ◌≤◌, ℕ, List, [], ◌++◌, length, take, drop, Option, Some, None, sym, ap, subst, arith, length-take-le}
 use Rattle.std.specs.Prelude.{Result, Ok}
 use Rattle.std.specs.Io.{ReadsAtMost, WritesAtMost}
@@ -17,7 +17,7 @@ use Rattle.ept_poll.specs.Links.{IfReadyOk, ReadsOn}
 use Rattle.ept_poll.specs.Units.{Seen, IsAs}
 use Rattle.ept_poll.specs.Steps.{IsSomeUnit, IsUnitOrEnd}
 
--- ---- what is known of an answer
+-- ---- what is known of a result
 
 ready-at : {A : Type 0} (r : Poll A) (x : A) (P : A → Type 0) → r ≡ Ready x → IfReady r P → P x
 ready-at r x P is holds = subst (λ q. IfReady q P) is holds

@@ -98,9 +98,9 @@ units-stores [] old new is =
 units-stores (call ∷ calls) old new is =
     cause-then fault.Store old.state is.0.state new.state old.store_faults is.0.store_faults new.store_faults (unit-stores old is.0 call is.1) (units-stores calls is.0 new is.2)
 
--- ---- a fault of the link is told at once
+-- ---- a fault of the link is reported at once
 
--- where the link failed, nothing is to be sent
+-- if the link failed, nothing is to be sent
 abbrev pub IsClear : State → Type 0
 IsClear state = state.fault ≡ Some fault.Link → state.out ≡ []
 
@@ -122,7 +122,7 @@ pub units-clear : (calls : List SessionCall) (old new : Seen) → AreUnits old c
 units-clear [] old new is clear = subst (λ (s : Seen). IsClear s.state) (sym is) clear
 units-clear (call ∷ calls) old new is clear = units-clear calls is.0 new is.2 (unit-clear old is.0 call is.1 clear)
 
--- so of a session that wants to read, to write or to work the link has not failed
+-- so if a session wants to read, to write or to work, its link has not failed
 link-over : (out : List ℕ) (f : Option Fault) (hand : Hand) (due over : Bool) → f ≡ Some fault.Link → out ≡ [] → wants out f hand due over ≡ want.End end.LinkFault
 link-over [] (Some fault.Link) hand due over fixed none = refl
 link-over [] (Some fault.Store) hand due over fixed none = absurd cc
@@ -141,7 +141,7 @@ goes-on-clear state clear on fixed =
 pub as-once : (now : Seen) → IsAs now now
 as-once now = record { wire = refl; later = omega arith; files = refl; store_faults = refl; gets = refl; state = refl }
 
--- one more unit behind the others
+-- one more unit after the others
 pub units-more : (calls : List SessionCall) (old mid new : Seen) (call : SessionCall) → AreUnits old calls mid → IsUnit mid call new → AreUnits old (calls ++ call ∷ []) new
 units-more [] old mid new call is unit = (new, subst (λ (s : Seen). IsUnit s call new) is unit, refl)
 units-more (first ∷ calls) old mid new call is unit = (is.0, is.1, units-more calls is.0 mid new call is.2 unit)

@@ -1,4 +1,4 @@
--- How many files a connection has got behind units of a poll.
+-- How often a connection has called `get` after units of a poll.
 use Rattle.std.proofs.Common.{◌≡◌, ◌∙◌, ◌⊎◌, inl, inr, ℕ, List, [], ◌∷◌, Option, Some, None, sym, ap, subst}
 use Rattle.ept_base.specs.Files.{Files, StepsBy, Tells}
 use Rattle.ept_base.specs.Links.{Wire, FailsToRead, Writes}
@@ -13,7 +13,7 @@ use Rattle.ept_poll.specs.Units.{Seen, IsAs, IsUnit, AreUnits}
 use Rattle.ept_poll.specs.Runs.{IsUnused, IsNew, HavePolled, GetsForTurns}
 use Rattle.ept_poll.proofs.Standing.{tells-step, tells-weaker, same-told}
 
--- what was got so far, where the link tells which bytes came
+-- the calls so far, if it is visible which bytes came
 abbrev GotBy : Files → ℕ → ℕ → State → Wire → Type 0
 GotBy files first now state wire = HasGotFor files first wire.taken state now state.fault
 

@@ -29,13 +29,13 @@ use Rattle.ept_conn.proofs.Conversing.{read-converses, unread-converses, work-co
 use Rattle.ept_poll.specs.Polls.{unused, IsRefusing, HasPassed}
 use Rattle.ept_poll.proofs.Statuses.{no-status}
 
--- what holds by what was read and written holds of all that passed over the link
+-- what holds of the bytes read and written holds of all that passed over the link
 pub by-passed : (P : List ℕ → List ℕ → Type 0) (served : Served) (reason : Type 0) (state : State) (wire : Wire) → (c : Converses served reason unused state wire) → P c.bytes c.text → P wire.taken wire.written
 by-passed P served reason state wire c holds =
     let bytes : P wire.taken c.text = subst (λ (w : List ℕ). P w c.text) (sym c.passes.taken) holds in
     subst (P wire.taken) (sym c.passes.written) bytes
 
--- ---- bytes have one list of answers
+-- ---- bytes have one list of responses
 
 answers-once : (served : Served) (bytes a b : List ℕ) → AreAnswers served bytes a → AreAnswers served bytes b → a ≡ b
 answers-once served bytes a b one two =
@@ -46,7 +46,7 @@ no-more sent more same some =
     let len : length sent ≡ length sent + length more = ap length same ∙ length-append sent more in
     omega (arith, len, some)
 
--- a turn that is not wholly answered is not
+-- if some turn has no whole response, what was sent is not all responses
 unanswered-not : (served : Served) (bytes sent : List ℕ) → IsUnanswered served bytes sent → ¬ AreAnswers served bytes sent
 unanswered-not served bytes sent u answered =
     let turns = due-once (fed fresh bytes) answered.turns (u.before ++ (u.turn ∷ u.others)) answered.due u.due in
@@ -57,7 +57,7 @@ unanswered-not served bytes sent u answered =
     let some = u.some in
     no-more sent (u.unsent ++ answers served u.others) whole (omega (arith, some, len))
 
--- a session that goes on and has bytes to be sent has not sent all answers
+-- a session that continues and has bytes to be sent has not sent all responses
 going-unanswered : (served : Served) (reason : Type 0) (bytes sent : List ℕ) (state : State) → Has served reason bytes sent state → state.fault ≡ None → want_of state ≡ want.Write → ¬ AreAnswers served bytes sent
 going-unanswered served reason bytes sent state has going is answered =
     let due = some-due (fed state.held []) in
@@ -68,7 +68,7 @@ going-unanswered served reason bytes sent state has going is answered =
     let len : length text ≡ length state.out + length (rest_of served state.hand ++ answers served due.0) = length-append state.out (rest_of served state.hand ++ answers served due.0) in
     no-more sent text (answers-once served bytes sent (sent ++ text) answered all) (omega (arith, some, len))
 
--- nor has one that sends a status in place of an answer
+-- nor has a session that sends a status in place of a response
 refusing-unanswered : (served : Served) (bytes sent out : List ℕ) → IsRefusing served bytes sent out → ¬ AreAnswers served bytes sent
 refusing-unanswered served bytes sent out r answered =
     let turns = due-once (fed fresh bytes) answered.turns (r.before ++ (r.turn ∷ r.others)) answered.due r.due in
@@ -156,7 +156,7 @@ word-status (fault.Damaged found) out some status = inl status
 word-status fault.Memory out some (inl none) = absurd (let len : length out ≡ 0 = ap length none in omega (arith, some, len))
 word-status fault.Memory out some (inr status) = inr status
 
--- a status is put out where nothing of the answer in hand was
+-- a status is output if nothing of the response in hand was
 record IsStatusNow (served : Served) (before : List Turn) (sent out : List ℕ) : Type 0 where
   text_is : sent ≡ answers served before
   status : (out ≡ refusal 503 true) ⊎ (out ≡ refusal 507 true)
@@ -173,7 +173,7 @@ status-now served bytes sent out old cause (Decided turn) g none is some words =
 status-now served bytes sent out old cause (Tiles turn plan done) g none is some words =
     absurd (let len : length out ≡ 0 = ap length words in omega (arith, some, len))
 
--- there is a turn that it stands for
+-- there is a turn whose response it replaces
 for-turn : (served : Served) (bytes sent out : List ℕ) (before others : List Turn) → AreDue (fed fresh bytes) (before ++ others) → ¬ AreAnswers served bytes sent → IsStatusNow served before sent out → IsRefusing served bytes sent out
 for-turn served bytes sent out before [] due unanswered now =
     absurd (unanswered (record { turns = before; due = subst (AreDue (fed fresh bytes)) (append-nil before) due; text_is = now.text_is }))

@@ -1,4 +1,4 @@
--- What holds behind a poll: so many units, and a last call of the link that may have waited.
+-- What holds after a poll: its units were done, and a last call of the link may have waited.
 use Rattle.std.proofs.Common.{◌≡◌, ◌≢◌, ◌≤◌, ◌⊎◌, inl, inr, ℕ, List, length, Some}
 use Rattle.futures.specs.declared.task.Poll.TheVariants.{Ready}
 use Rattle.ept_base.specs.Causes.{Rose}

@@ -1,4 +1,4 @@
--- List after list of polls.
+-- Polls, list after list.
 use Rattle.std.proofs.Common.{ℕ, List, [], ◌∷◌, sym, subst}
 use Rattle.ept_conn.specs.SessionCalls.{SessionCall}
 use Rattle.ept_poll.specs.Units.{Seen}

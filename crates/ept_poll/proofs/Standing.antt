@@ -1,4 +1,4 @@
--- What stands of a connection still stands behind units of a poll.
+-- What is known of a connection is still known after units of a poll.
 use Rattle.std.proofs.Common.{◌≡◌, ◌∙◌, ◌≤◌, ◌⊎◌, inl, inr, ℕ, List, [], ◌∷◌, Option, Some, None, refl, sym, ap, subst, arith}
 use Rattle.std.proofs.Math.Path.{fun_ext}
 use Rattle.ept_base.specs.Causes.{Rose}
@@ -20,9 +20,9 @@ use Rattle.ept_poll.specs.Polls.{HasPassed, Stands}
 use Rattle.ept_poll.specs.Runs.{IsUnused}
 use Rattle.ept_poll.proofs.Passing.{read-passed, unread-passed, work-passed, write-passed, unwritten-passed}
 
--- ---- what is told
+-- ---- what is visible
 
--- a step leads from what is told before to what is told behind it
+-- a step leads from what is visible before it to what is visible after it
 pub tells-step : {X : Type 0} (R : X → X → Type 0) (P Q : X → Type 0) (old new : Option X) → StepsBy R old new → Tells P old → ((a b : X) → R a b → P a → Q b) → Tells Q new
 tells-step R P Q None None step told f = tt
 tells-step R P Q None (Some b) step told f = absurd step
@@ -33,7 +33,7 @@ pub tells-weaker : {X : Type 0} (P Q : X → Type 0) (o : Option X) → Tells P 
 tells-weaker P Q None told f = tt
 tells-weaker P Q (Some a) told f = f a told
 
--- the folder that is told is one
+-- the visible folder stays the same
 pub same-told : (old new : Option Files) → StepsBy SameFiles old new → new ≡ old
 same-told None None step = refl
 same-told None (Some b) step = absurd step
@@ -85,7 +85,7 @@ as-stands first old new is s = record {
   stores = λ fixed. subst (λ (n : ℕ). Rose first n) (sym is.store_faults) (s.stores (ap (λ (t : State). t.fault) (sym is.state) ∙ fixed));
 }
 
--- the link was called: what is said of the bytes is all that is new
+-- the link was called: only what is said of the bytes is new
 over-link-stands : (first : ℕ) (old new : Seen) → IsOverLink old new → Stands first old
     → ((served : Served) → Tells (λ w. HasPassed served (Rose first old.store_faults) old.state w) old.wire → Tells (λ w. HasPassed served (Rose first old.store_faults) new.state w) new.wire)
     → ((new.state.hand ≡ old.state.hand) ⊎ (new.state.hand ≡ Empty))
@@ -109,7 +109,7 @@ over-link-stands first old new is s passes hand fixes = record {
     was cause not_link not_memory (inr (inl link)) = absurd (not_link link)
     was cause not_link not_memory (inr (inr memory)) = absurd (not_memory memory)
 
--- which end is fixed by what is fed
+-- the end that is fixed by what is fed
 fed-fixes : (old new : State) (piece : List ℕ) (cause : Fault) → (new ≡ feeds old piece) ⊎ (new ≡ record old { fault = Some fault.Memory }) → new.fault ≡ Some cause → (old.fault ≡ Some cause) ⊎ ((cause ≡ fault.Link) ⊎ (cause ≡ fault.Memory))
 fed-fixes old new [] cause (inl is) fixed = inl (sym (ap (λ (s : State). s.fault) is) ∙ fixed)
 fed-fixes old new (b ∷ piece) cause (inl is) fixed = inl (sym (ap (λ (s : State). s.fault) is) ∙ fixed)

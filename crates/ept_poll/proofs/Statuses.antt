@@ -1,4 +1,4 @@
--- The head of status 503 or 507 is no front of an answer.
+-- The head of status 503 or 507 is no prefix of a response.
 use Rattle.std.proofs.Common.{◌≡◌, ◌∙◌, ◌⊎◌, inl, inr, ℕ, zero, suc, List, [], ◌∷◌, ◌++◌, take, drop, Bool, true, false, if◌then◌else◌, MatchBool, Option, Some, None, MatchOption, refl, sym, ap, subst, arith}
 use Rattle.std.specs.Prelude.{⊤}
 use Rattle.std.specs.List.{AllByRecursion}
@@ -84,7 +84,7 @@ all-behind P (y ∷ before) x behind all = all-behind P before x behind all.1
 abbrev digit_of : List ℕ → List ℕ
 digit_of text = take 1 (drop 11 text)
 
--- it is no 3, and no 7
+-- it is neither 3 nor 7
 record IsOther (text : List ℕ) : Type 0 where
   three : ¬ (digit_of text ≡ 51 ∷ [])
   seven : ¬ (digit_of text ≡ 55 ∷ [])
@@ -143,7 +143,7 @@ seven-digit : digit_of (refusal 507 true) ≡ 55 ∷ []
 unfolding head_text status_line digits
 seven-digit = refl
 
--- the answer to a turn and more is no head of status 503 or 507
+-- the response to a turn and more is no head of status 503 or 507
 pub no-status : (served : Served) (held : Held) (before others : List Turn) (turn : Turn) (more : List ℕ) → AreDue held (before ++ (turn ∷ others)) → (answer served turn ++ more ≡ refusal 503 true) ⊎ (answer served turn ++ more ≡ refusal 507 true) → ⊥
 no-status served held before others turn more due (inl same) =
     let plain = all-behind (λ (t : Turn). IsPlain t.asked) before turn others (due-plain held (before ++ (turn ∷ others)) due) in

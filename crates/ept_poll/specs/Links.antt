@@ -7,7 +7,7 @@ use Rattle.futures.specs.Task.{IsArmed}
 use Rattle.ept_base.specs.Causes.{Rose}
 use Rattle.ept_base.specs.Links.{Wire, Reads}
 
--- a fact on the value that is ready, and on a refusal that is
+-- a fact about the value that is ready, and a fact that holds after an error that is ready
 abbrev pub IfReadyOk : {T E : Type 0} → Poll (Result T E) → (T → Type 0) → Type 0
 IfReadyOk (Ready (Ok value)) P = P value
 IfReadyOk (Ready (Err error)) P = ⊤
@@ -18,7 +18,7 @@ OnReadyErr (Ready (Ok value)) P = ⊤
 OnReadyErr (Ready (Err error)) P = P
 OnReadyErr Pending P = ⊤
 
--- a read took these bytes, and there were none only at the end of what comes
+-- a read took these bytes, and took none only at the end of the input
 pub record ReadsOn (bytes : List ℕ) (old new : Wire) : Type 0 where
   pub reads : Reads bytes old new
   pub at_end : bytes ≡ [] → new.left ≡ []

@@ -5,15 +5,15 @@ use Rattle.ept_base.specs.Links.{Wire}
 use Rattle.ept_mem.specs.Objects.{link_wire as mem_wire, link_piece as mem_piece}
 use Rattle.ept_poll.specs.declared.mem.MemPollLink.{MemPollLink}
 
--- what comes and goes over it
+-- the bytes that come and go over it
 abbrev pub link_wire : MemPollLink → Wire
 link_wire link = mem_wire link.link
 
--- what a read gives at most: the rest of the piece that it stands in
+-- what a read returns at most: the rest of the current piece
 abbrev pub link_piece : MemPollLink → List ℕ
 link_piece link = mem_piece link.link
 
--- how often it failed, and how often a read and a write was pending
+-- how often it failed, and how often a read and a write were pending
 abbrev pub link_faults : MemPollLink → ℕ
 link_faults link = link.faults
 
@@ -23,7 +23,7 @@ link_read_waits link = link.read_waits
 abbrev pub link_write_waits : MemPollLink → ℕ
 link_write_waits link = link.write_waits
 
--- how many calls there were, and the numbers of those that are to wait and of those that are to fail
+-- the number of calls so far, and the numbers of the calls that are to wait and of those that are to fail
 abbrev pub link_calls : MemPollLink → ℕ
 link_calls link = link.script.calls
 
@@ -37,11 +37,11 @@ link_fails link = link.script.fails.items
 abbrev pub IsToWait : MemPollLink → Type 0
 IsToWait link = Contains (link_pending link) (link_calls link)
 
--- the next call is to fail: it is listed so, and not to wait
+-- the next call is to fail: it is listed to fail, and not to wait
 abbrev pub IsToFail : MemPollLink → Type 0
 IsToFail link = Contains (link_fails link) (link_calls link) × (¬ IsToWait link)
 
--- one call more was counted, and the same ones are to wait and to fail
+-- one more call was counted, and the same calls are to wait and to fail
 pub record IsOneCallMore (old new : MemPollLink) : Type 0 where
   pub calls : link_calls new ≡ counts_on (link_calls old) 1
   pub pending : link_pending new ≡ link_pending old

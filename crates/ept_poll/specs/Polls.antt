@@ -41,7 +41,7 @@ seen link store conn = record {
   state = conn.session;
 }
 
--- it may be polled: a poll does one unit at least, and none has told a fault of the link
+-- it may be polled: a poll does at least one unit, and no poll has reported a fault of the link
 pub record IsPollable (turns : ℕ) (state : State) : Type 0 where
   pub some : 0 < turns
   pub clear : state.fault ≢ Some fault.Link
@@ -52,15 +52,15 @@ pub record IsPollable (turns : ℕ) (state : State) : Type 0 where
 abbrev pub unused : Wire
 unused = record { taken = []; left = []; written = []; reads = [] }
 
--- what the link tells, by what is sent of a folder
+-- a fact about what is visible of the link, by what is sent of a folder
 abbrev pub Told : Seen → (Served → Wire → Type 0) → Type 0
 Told now fact = (files : Files) → now.files ≡ Some files → (served : Served) → IsSentOf files served → Tells (fact served) now.wire
 
--- what it tells of a folder in which each plan and each tile is there
+-- the same for a folder in which each plan and each tile is there
 abbrev pub ToldOfWhole : Seen → (Served → Wire → Type 0) → Type 0
 ToldOfWhole now fact = (files : Files) → now.files ≡ Some files → (served : Served) → IsServed files served → Tells (fact served) now.wire
 
--- a status is sent in place of the answer to a turn: of it these bytes have gone out, and the others are to be sent
+-- a status is sent in place of the response to a turn. Some of its bytes have gone out, and the others are to be sent.
 pub record IsRefusing (served : Served) (bytes sent out : List ℕ) : Type 0 where
   pub before : List Turn
   pub turn : Turn
@@ -70,12 +70,14 @@ pub record IsRefusing (served : Served) (bytes sent out : List ℕ) : Type 0 whe
   pub text_is : sent ≡ answers served before ++ gone
   pub status : (gone ++ out ≡ refusal 503 true) ⊎ (gone ++ out ≡ refusal 507 true)
 
--- a session was fed what a link gave and what it put out was written, since nothing had passed; where it has bytes to be sent after its end was fixed, they are a status
+-- Since nothing had passed, a session was fed what its link read, and what it output was written. If it has bytes to be
+-- sent after its end was fixed, they are a status.
 pub record HasPassed (served : Served) (reason : Type 0) (state : State) (wire : Wire) : Type 0 where
   pub converses : Converses served reason unused state wire
   pub refusing : want_of state ≡ want.Write → (state.fault ≡ None) ⊎ IsRefusing served wire.taken wire.written state.out
 
--- Of a connection that was made over a link over which nothing had passed: what its link and its session did since. The store's count of faults was `first` then.
+-- What is known of a connection that was made over a link over which nothing had passed. The store's count of faults
+-- was `first` then.
 pub record Stands (first : ℕ) (now : Seen) : Type 0 where
   pub later : first ≤ now.store_faults
   pub passed : Told now (λ served wire. HasPassed served (Rose first now.store_faults) now.state wire)
@@ -83,13 +85,14 @@ pub record Stands (first : ℕ) (now : Seen) : Type 0 where
   pub damaged : (found : QueryFile) → now.state.fault ≡ Some (fault.Damaged found) → Tells (IsDamaged found) now.files
   pub stores : now.state.fault ≡ Some fault.Store → Rose first now.store_faults
 
--- a fact of a connection, for each way in which it can have come to be as it was
+-- a fact of a connection, for each way in which it can have reached its state
 abbrev pub Since : Seen → (ℕ → Type 0) → Type 0
 Since old fact = (first : ℕ) → Stands first old → fact first
 
 -- ---- what has gone out
 
--- the bytes that have gone out are a front of what may be sent of those that came; status 503 only for this reason
+-- the bytes that have gone out are a prefix of what may be sent for those that came. Status 503 comes only for this
+-- reason, or for a damaged file.
 abbrev pub IsFront : Type 0 → Served → Wire → Type 0
 IsFront reason served wire = IsBroken served reason wire.taken wire.written
 
@@ -97,20 +100,20 @@ IsFront reason served wire = IsBroken served reason wire.taken wire.written
 abbrev pub IsEndOver : Type 0 → End → Served → Wire → Type 0
 IsEndOver reason ends served wire = IsEnd served reason (wire.left ≡ []) wire.taken wire.written ends
 
--- they answer every turn of those that came
+-- they are the responses to every turn of those that came
 abbrev pub IsAnswered : Served → Wire → Type 0
 IsAnswered served wire = HasAnswered served wire.taken wire.written
 
--- some turn is not wholly answered
+-- some turn has no whole response
 abbrev pub IsNotAnswered : Served → Wire → Type 0
 IsNotAnswered served wire = ¬ AreAnswers served wire.taken wire.written
 
--- at each read, every turn of the bytes that had come was answered
+-- at each read, every turn of the bytes that had come had its response
 abbrev pub IsReadAnswered : Served → Wire → Type 0
 IsReadAnswered served wire =
     AllByRecursion (λ (at : ℕ × ℕ). HasAnswered served (take at.0 wire.taken) (take at.1 wire.written)) wire.reads
 
--- no device failed, and no file is damaged
+-- the end is neither a fault of a device nor a damaged file
 abbrev pub IsWell : End → Type 0
 IsWell end.Closed = ⊤
 IsWell end.LinkFault = ⊥
@@ -120,24 +123,25 @@ IsWell end.Memory = ⊤
 
 -- ---- one poll
 
--- a read waits, and every turn is answered
+-- a read waits, and every turn has its response
 pub record IsReading (old new : Seen) (reads : Type 0) : Type 0 where
   pub rose : reads
   pub wanted : want_of new.state ≡ want.Read
   pub answered : Since old (λ first. Told new IsAnswered)
 
--- a write waits, and some turn is not
+-- a write waits, and some turn has no whole response
 pub record IsWriting (old new : Seen) (writes : Type 0) : Type 0 where
   pub rose : writes
   pub wanted : want_of new.state ≡ want.Write
   pub unanswered : Since old (λ first. Told new IsNotAnswered)
 
--- so many units were done as may be, and the task is to be polled again
+-- all `turns` units were done, and the task is to be polled again
 pub record HasYielded (turns : ℕ) (calls : List SessionCall) (cx : Context) : Type 0 where
   pub all : length calls ≡ turns
   pub woken : cx.is_woken ≡ true
 
--- a poll did these units, as many as the turns at most; behind them it called the link at most once more, which waited. Pending has one of three causes.
+-- A poll did these units, at most `turns` of them. After them it called the link at most once more, and that call
+-- waited. It is pending for one of three causes.
 pub record Polls (turns : ℕ) (old : Seen) (answer : Poll End) (new : Seen) (reads writes : Type 0) (cx : Context) : Type 0 where
   pub calls : List SessionCall
   pub few : length calls ≤ turns

@@ -1,4 +1,4 @@
--- Lists of polls of one connection. Each statement stands on the contract of a function of `laws`.
+-- Lists of polls of one connection. Each statement is a clause of a function of `laws`.
 use Rattle.std.specs.Prelude.{◌≡◌, List, [], ◌∷◌, Some}
 use Rattle.ept_base.specs.Causes.{Rose}
 use Rattle.ept_base.specs.Files.{Files, Tells}
@@ -17,38 +17,40 @@ pub record IsUnused (wire : Wire) : Type 0 where
   pub written : wire.written ≡ []
   pub reads : wire.reads ≡ []
 
--- a connection as it is made: its session was fed nothing, and where its link tells, nothing has passed over it
+-- a new connection: its session was fed nothing, and nothing has passed over its link, if that is visible
 pub record IsNew (conn : Seen) : Type 0 where
   pub fresh : conn.state ≡ started
   pub unused : Tells IsUnused conn.wire
 
--- poll after poll, each by the units that it did
+-- poll after poll, each given by the units that it did
 abbrev pub HavePolled : Seen → List (List SessionCall) → Seen → Type 0
 HavePolled old [] now = now ≡ old
 HavePolled old (calls ∷ polls) now =
     (last : Seen) × (next : Seen) × AreUnits old calls last × IsAs last next × HavePolled next polls now
 
--- after any list of polls, what has gone out is a front of what may be sent of the bytes that came; status 503 is only where the store's count of faults rose since the connection was made
+-- after any list of polls, the bytes that have gone out are a prefix of what may be sent for those that came. Status
+-- 503 comes only if the store's count of faults rose since the connection was made, or for a damaged file.
 abbrev pub SendsFronts : Type 0
 SendsFronts =
     (polls : List (List SessionCall)) (old now : Seen) → IsNew old → HavePolled old polls now → Told now (IsFront (Rose old.store_faults now.store_faults))
 
--- no turn waited for bytes behind it
+-- no turn waited for bytes that follow it
 abbrev pub AnswersAtReads : Type 0
 AnswersAtReads =
     (polls : List (List SessionCall)) (old now : Seen) → IsNew old → HavePolled old polls now → Told now IsReadAnswered
 
--- where its session is at its end, it is what is sent at that end
+-- if its session is at its end, they are what is sent at that end
 abbrev pub EndsAsServed : Type 0
 EndsAsServed =
     (polls : List (List SessionCall)) (old now : Seen) (ends : End) → IsNew old → HavePolled old polls now → want_of now.state ≡ want.End ends → Told now (IsEndOver (Rose old.store_faults now.store_faults) ends)
 
--- no more files were got since it was made than the turns of the bytes that came take, whatever the folder holds
+-- since it was made there were no more calls of `get` than the turns of the bytes that came take, whatever the folder
+-- holds
 abbrev pub GetsForTurns : Type 0
 GetsForTurns =
     (polls : List (List SessionCall)) (old now : Seen) → IsNew old → HavePolled old polls now → (files : Files) → now.files ≡ Some files → Tells (λ wire. GetsWithin files old.gets wire.taken now.gets) now.wire
 
--- so what the clauses of a poll ask for stands after any list of polls
+-- so what the clauses of a poll ask for is known after any list of polls
 abbrev pub StandsOn : Type 0
 StandsOn =
     (polls : List (List SessionCall)) (old now : Seen) → IsNew old → HavePolled old polls now → Stands old.store_faults now

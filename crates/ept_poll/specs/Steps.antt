@@ -1,4 +1,4 @@
--- One unit of a poll, or why there is none.
+-- One unit of a poll, or why none was done.
 use Rattle.std.specs.Prelude.{◌≡◌, ◌⊎◌, ℕ, Option, Some, None}
 use Rattle.ept_base.specs.Files.{Files}
 use Rattle.ept_conn.specs.declared.end.End.{End}
@@ -8,7 +8,7 @@ use Rattle.ept_conn.specs.SessionCalls.{SessionCall}
 use Rattle.ept_poll.specs.declared.link.PollLink.{Ghosts as LinkOf}
 use Rattle.ept_poll.specs.Units.{Seen, IsAs, IsUnit}
 
--- what is seen of a link and of a session over it, beside what a store holds, how often it failed and how many files were got
+-- what is seen of a link and its session, together with what a store holds, its count of faults and its calls of `get`
 abbrev pub beside : {L : Type 0} → LinkOf L → L → State → Option Files → ℕ → ℕ → Seen
 beside is link state files store_faults gets = record {
   wire = is.wire link;
@@ -22,7 +22,7 @@ beside is link state files store_faults gets = record {
 abbrev pub IsSomeUnit : Seen → Seen → Type 0
 IsSomeUnit old new = (call : SessionCall) × IsUnit old call new
 
--- one unit was done; or the session is at its end, and nothing was
+-- one unit was done; or the session is at its end, and nothing was done
 abbrev pub IsUnitOrEnd : Option End → Seen → Seen → Type 0
 IsUnitOrEnd None old new = IsSomeUnit old new
 IsUnitOrEnd (Some ends) old new = IsAs old new × (want_of new.state ≡ want.End ends)

@@ -15,7 +15,9 @@ use Rattle.ept_conn.specs.Whole.{HasFound}
 use Rattle.ept_conn.specs.SessionCalls.{SessionCall, Fed, Worked, Sent, Failed}
 use Rattle.ept_poll.specs.Links.{ReadsOn}
 
--- what is seen of a connection: what its link tells and how often it failed, what its store holds, how often it failed and how many files were got, and its session
+-- What is seen of a connection. `wire` is what its link moved, if visible, and `faults` the link's count of faults.
+-- `files`, `store_faults` and `gets` are what its store holds, its count of faults and its calls of `get`. `state` is
+-- its session.
 pub record Seen : Type 0 where
   pub wire : Option Wire
   pub faults : ℕ
@@ -24,7 +26,7 @@ pub record Seen : Type 0 where
   pub gets : ℕ
   pub state : State
 
--- nothing but the link's count of faults may have changed
+-- only the link's count of faults may have changed
 pub record IsAs (old new : Seen) : Type 0 where
   pub wire : new.wire ≡ old.wire
   pub later : old.faults ≤ new.faults
@@ -33,7 +35,7 @@ pub record IsAs (old new : Seen) : Type 0 where
   pub gets : new.gets ≡ old.gets
   pub state : new.state ≡ old.state
 
--- the link alone was called
+-- only the link was called
 pub record IsOverLink (old new : Seen) : Type 0 where
   pub later : old.faults ≤ new.faults
   pub files : new.files ≡ old.files
@@ -56,7 +58,8 @@ pub record IsOverStore (old new : Seen) : Type 0 where
   pub damaged : (found : QueryFile) → new.state.fault ≡ Some (fault.Damaged found) → Tells (IsDamagedIn old.state.hand found) old.files
   pub stores : new.state.fault ≡ Some fault.Store → Rose old.store_faults new.store_faults
 
--- one unit: a read took bytes, or met the end of what comes, and they were fed; one piece of work was done; a write passed some of the bytes that are to be sent; or the link failed
+-- One unit is one of four. A read took bytes or met the end of the input, and that was fed. One piece of work was done.
+-- A write passed some of the bytes to be sent. The link failed.
 abbrev pub IsUnit : Seen → SessionCall → Seen → Type 0
 IsUnit old (Fed piece) new =
     (want_of old.state ≡ want.Read) × IsOverLink old new × StepsBy (ReadsOn piece) old.wire new.wire

@@ -18,11 +18,11 @@ use futures::Future;
 use futures::task::{Context, Poll};
 use std::alloc::Global;
 
-/// How many bytes one read takes at most.
+/// The most bytes that one read takes.
 const PIECE: usize = 8192;
 
-/// A connection over a link and a folder, served poll by poll. One poll does so many units at most: a unit is
-/// one call of the link that moved a byte, met the end of the input or failed, or one piece of work.
+/// A connection over a link and a folder, served poll by poll. One poll does at most `turns` units. A unit is one piece
+/// of work, or one call of the link that moved a byte, met the end of the input or failed.
 #[derive(Drop)]
 pub struct PollConn<L, T> {
     pub(crate) link: L,
@@ -35,7 +35,7 @@ impl<L: PollLink + Drop, T: Store + Drop> PollConn<L, T> {
     ghost use Rattle.ept_poll.specs.Polls.{seen, Stands};
     ghost use Rattle.ept_poll.specs.Runs.{IsUnused};
 
-    /// A connection of which nothing has come and nothing was sent. It takes no memory.
+    /// A connection over which nothing has come and nothing was sent. It takes no memory.
     pub fn new(alloc: Global, link: L, store: T, turns: u32) -> PollConn<L, T>
         requires some { 0 < turns }
         requires unused { Tells IsUnused (L.wire link) }
@@ -50,7 +50,7 @@ impl<L: PollLink + Drop, T: Store + Drop> PollConn<L, T> {
         }
     }
 
-    /// The link and the store.
+    /// Returns the link and the store.
     pub fn into_parts(self) -> (L, T)
         ensures { result ≡ (self.link, self.store) }
     {
@@ -71,8 +71,8 @@ impl<L: PollLink + Drop, T: Store + Drop> Future for PollConn<L, T> {
 
     ghost can_poll = { λ conn. IsPollable conn.turns conn.session };
 
-    /// Does as many units as the connection's turns at most. It is ready with the end of the connection, and
-    /// pending where the link waits, or where it did that many units: then it is to be polled again.
+    /// Does at most `turns` units. It is ready with the end of the connection. It is pending if the link waits. It is
+    /// also pending after `turns` units, and then asks to be polled again.
     fn poll(&mut self, cx: &mut Context<'_>) -> Poll<End>
         requires { IsPollable self.old.turns self.old.session }
         ensures again { OnPending result (IsPollable self.new.turns self.new.session) }
@@ -94,7 +94,7 @@ impl<L: PollLink + Drop, T: Store + Drop> Future for PollConn<L, T> {
     }
 }
 
-// Does one unit; the end of the session, where it wants no more. Pending, where the link waits.
+// Does one unit. Returns the end of the session if it wants nothing more. Pending if the link waits.
 fn unit<L: PollLink, T: Store>(
     session: &mut Session,
     link: &mut L,
@@ -126,7 +126,7 @@ fn unit<L: PollLink, T: Store>(
     }
 }
 
-// Reads a piece, and feeds it.
+// Reads a piece, and feeds it to the session.
 fn read_piece<L: PollLink>(
     session: &mut Session,
     link: &mut L,
@@ -157,7 +157,7 @@ fn read_piece<L: PollLink>(
     }
 }
 
-// Writes of what is to be sent as much as the link takes at once.
+// Passes the bytes to be sent to the link, and notes how many the link took.
 fn write_some<L: PollLink>(
     session: &mut Session,
     link: &mut L,

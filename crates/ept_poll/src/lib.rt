@@ -1,4 +1,4 @@
-//! Connections polled by hand: a link whose calls do not wait, and a future that serves a connection over it.
+//! Connections that are polled: a link whose calls do not wait, and a future that serves a connection over it.
 #![tactic(auto)]
 
 mod conn;

@@ -1,4 +1,4 @@
-//! A line to a peer that is polled.
+//! A polled link to a peer.
 
 ghost use Rattle.std.specs.Prelude.{◌≡◌, ◌<◌, ◌≤◌, ℕ, [], Option, length, take};
 ghost use Rattle.std.specs.Io.{ReadsAtMost, WritesAtMost};
@@ -12,10 +12,10 @@ ghost use Rattle.ept_poll.specs.Links.{IfReadyOk, OnReadyErr, Waits};
 use ept_base::Failed;
 use futures::task::{Context, Poll};
 
-/// A line to a peer whose calls do not wait: bytes that come, and bytes that go. What a call moves is as in
-/// `Link`. A call that can move no byte now is pending; its task is then woken.
+/// A link to a peer whose calls do not wait: bytes that come, and bytes that go. A call moves what a call of `Link`
+/// moves. A call that can move no byte now is pending, and its task is woken later.
 pub trait PollLink {
-    /// What came and went, where it tells.
+    /// What came and went, if visible.
     ghost wire: { Self → Option Wire };
 
     /// How often it has failed, in reads and in writes.
@@ -27,8 +27,8 @@ pub trait PollLink {
     /// How often a write was pending.
     ghost write_waits: { Self → ℕ };
 
-    /// Takes the next bytes into the front of `into` and answers their number, which is 0 only where no
-    /// more come or where `into` is empty. After `Failed` no byte was taken, and `into` is as it was.
+    /// Takes the next bytes into the first bytes of `into`, and returns their number. The number is 0 only if no more
+    /// bytes come or `into` is empty. After `Failed` no byte was taken, and `into` is unchanged.
     fn poll_read(&mut self, cx: &mut Context<'_>, into: &mut [u8]) -> Poll<Result<usize, Failed>>
         ensures bound { IfReady result (λ read. ReadsAtMost read into.new) }
         ensures ok { IfReadyOk result (λ n. StepsBy (Reads (take n into.new)) (wire self.old) (wire self.new)) }
@@ -42,8 +42,8 @@ pub trait PollLink {
         ensures later_reads { read_waits self.old ≤ read_waits self.new }
         ensures later_writes { write_waits self.old ≤ write_waits self.new };
 
-    /// Writes the first bytes of `from` and answers their number, which is 0 only where `from` is empty.
-    /// After `Failed` nothing was written.
+    /// Writes the first bytes of `from`, and returns their number. The number is 0 only if `from` is empty. After
+    /// `Failed` no byte was written.
     fn poll_write(&mut self, cx: &mut Context<'_>, from: &[u8]) -> Poll<Result<usize, Failed>>
         ensures bound { IfReady result (λ written. WritesAtMost written from.now) }
         ensures some { IfReadyOk result (λ n. 0 < length from.now → 0 < n) }

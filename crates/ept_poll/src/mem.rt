@@ -10,7 +10,7 @@ use ept_mem::MemLink;
 use futures::task::{Context, Poll};
 use std::alloc::Global;
 
-// Which calls are to wait and which to fail, and how many there were.
+// Which calls are to wait and which are to fail, and the number of calls so far.
 #[derive(Debug, Drop)]
 pub(crate) struct Script {
     pub(crate) pending: Vec<u64>,
@@ -18,7 +18,7 @@ pub(crate) struct Script {
     pub(crate) calls: u64,
 }
 
-// What is to come of a call.
+// What a call is to do.
 #[derive(Clone, Copy)]
 enum Course {
     Wait,
@@ -27,7 +27,7 @@ enum Course {
 }
 
 impl Script {
-    // Counts a call, and tells what is to come of it.
+    // Counts a call, and returns what it is to do.
     fn next(&mut self) -> Course
         ensures wait { result ≡ Course.Wait ↔ Contains self.old.pending.items self.old.calls }
         ensures fail { result ≡ Course.Fail → Contains self.old.fails.items self.old.calls }
@@ -57,8 +57,8 @@ fn fault(faults: &mut u64) -> Failed
     Failed
 }
 
-/// A link in memory over which bytes come in pieces. Its calls are numbered from 0: those that are listed to
-/// wait are pending, and of the others those that are listed to fail do so.
+/// A link in memory over which bytes come in pieces. Its calls are numbered from 0. The calls listed to wait are
+/// pending. Of the other calls, those listed to fail do so.
 #[derive(Debug, Drop)]
 pub struct MemPollLink {
     link: MemLink,
@@ -72,8 +72,8 @@ impl MemPollLink {
     ghost use Rattle.ept_mem.specs.Cut.{bytes_of_all};
     ghost use Rattle.ept_poll.specs.Memory.{link_wire, link_faults, link_read_waits, link_write_waits, link_calls, link_pending, link_fails};
 
-    /// A link over which these pieces come, one after another, whose calls of the first numbers wait and whose
-    /// calls of the second fail. It takes no memory.
+    /// A link over which these pieces come, one after another. The calls whose numbers are in `pending` wait, and those
+    /// in `fails` fail. It takes no memory.
     pub fn new(alloc: Global, pieces: Vec<Vec<u8>>, pending: Vec<u64>, fails: Vec<u64>) -> Self
         ensures left { (link_wire result).left ≡ bytes_of_all pieces.items }
         ensures untaken { (link_wire result).taken ≡ [] }

@@ -6,7 +6,7 @@ use Rattle.ept_tokio.specs.declared.link.TokioLink.{TokioLink}
 abbrev pub link_faults : {C S : Type 0} → TokioLink C S → ℕ
 link_faults link = link.faults
 
--- how often a read and a write was pending
+-- how often a read and a write were pending
 abbrev pub link_read_waits : {C S : Type 0} → TokioLink C S → ℕ
 link_read_waits link = link.read_waits
 

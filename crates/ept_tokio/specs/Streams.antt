@@ -1,4 +1,4 @@
--- What a link is over. It does not show which bytes passed; the stream may.
+-- The stream of a link. The link does not show which bytes passed; the stream may.
 use Rattle.std.specs.Prelude.{Option, None}
 use Rattle.ept_base.specs.Links.{Wire}
 use Rattle.ept_tokio.specs.declared.link.TokioLink.{TokioLink}

@@ -9,12 +9,12 @@ use std::io;
 use std::time::{Clock, Duration, Instant};
 use tokio::time::{Handle, Sleep};
 
-/// What is waited for.
+/// What a connection waits for.
 #[derive(Clone, Copy, Debug, PartialEq, Eq)]
 pub(crate) enum Stage {
     /// The first byte of a request.
     Request,
-    /// The rest of its head, all of it.
+    /// The rest of the head of a request.
     Head,
     /// That the peer takes a byte of a response.
     Response,
@@ -33,7 +33,7 @@ impl Stage {
     }
 }
 
-/// A limit of time for the stage that a connection is in. It runs from the first wait after the limit was begun.
+/// A time limit for the stage that a connection is in. It runs from the first wait after `begin`.
 #[derive(Drop)]
 pub(crate) struct Limit<'a, C> {
     clock: &'a C,
@@ -55,21 +55,21 @@ impl<'a, C: Clock> Limit<'a, C> {
         })
     }
 
-    /// A read comes: what is waited for is a request, if it was that a response is taken.
+    /// Notes a read: if the peer was to take a response, a request is now waited for.
     pub(crate) fn reads(&mut self) {
         if self.stage == Stage::Response {
             self.begin(Stage::Request);
         }
     }
 
-    /// Bytes of a request came.
+    /// Notes that bytes of a request came.
     pub(crate) fn has_read(&mut self) {
         if self.stage == Stage::Request {
             self.begin(Stage::Head);
         }
     }
 
-    /// A write comes: what is waited for is that a response is taken.
+    /// Notes a write: the peer is now to take a response.
     pub(crate) fn writes(&mut self) {
         if self.stage != Stage::Response {
             self.begin(Stage::Response);
@@ -94,7 +94,7 @@ impl<'a, C: Clock> Limit<'a, C> {
         }
     }
 
-    // Starts the time of the stage, unless it runs.
+    // Starts the time of the stage, unless it is running.
     fn run(&mut self) {
         if self.is_running {
             return;

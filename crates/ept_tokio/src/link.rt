@@ -19,20 +19,20 @@ use std::time::Clock;
 use tokio::io::{AsyncRead, AsyncWrite};
 use tokio::time::Handle;
 
-/// How many bytes one read takes from the stream at most.
+/// The most bytes that one read takes from the stream.
 const BLOCK: usize = 8192;
 
-/// How many bytes are read after the last response at most.
+/// The most bytes that are read after the last response.
 const REST: usize = 524_288;
 
-/// How many of these in one poll, in reads.
+/// The most reads of these bytes in one poll.
 const READS: usize = 16;
 
-/// A stream to a peer that is polled, as a TCP connection.
+/// A polled stream to a peer, such as a TCP connection.
 ///
-/// A call fails if the stream fails, if the stream takes none of some bytes, or if the peer takes too long: 60 s until
-/// the first byte of a request, 30 s from then on until its head is whole, 60 s without a byte taken of a response.
-/// That a head is whole is known by the write that comes next.
+/// A call fails if the stream fails, if the stream takes none of some bytes, or if the peer takes too long. The limits
+/// are 60 s until the first byte of a request, and 30 s from then on until its head is complete. A response has 60 s
+/// without a byte taken. The next write shows that a head is complete.
 #[derive(Drop)]
 pub struct TokioLink<'a, C, S> {
     stream: S,
@@ -66,7 +66,7 @@ impl<'a, C: Clock, S: AsyncRead + AsyncWrite> TokioLink<'a, C, S> {
         })
     }
 
-    /// Ends the sending side. What the peer still sends is then read by `poll_rest`.
+    /// Ends the sending side. What the peer still sends can then be read by `poll_rest`.
     pub fn finish(&mut self, cx: &mut Context<'_>)
         ensures kept { Keeps cx.old cx.new }
     {
@@ -74,8 +74,8 @@ impl<'a, C: Clock, S: AsyncRead + AsyncWrite> TokioLink<'a, C, S> {
         self.limit.begin(Stage::Rest);
     }
 
-    /// Reads what the peer still sends after the last response, 512 KiB at most and for 5 s at most. Ready when the
-    /// connection may be closed: one that is closed over bytes that were not read may lose its last response.
+    /// Reads what the peer still sends after the last response, at most 512 KiB and for at most 5 s. It is ready when
+    /// the connection may be closed. A connection that is closed over unread bytes may lose its last response.
     pub fn poll_rest(&mut self, cx: &mut Context<'_>) -> Poll<()>
         ensures armed { OnPending result (IsArmed cx.new) }
         ensures kept { Keeps cx.old cx.new }
@@ -95,7 +95,7 @@ impl<'a, C: Clock, S: AsyncRead + AsyncWrite> TokioLink<'a, C, S> {
         self.rest == 0
     }
 
-    // No more of the rest is read.
+    // Reads no more of the rest.
     fn end_rest(&mut self) -> Poll<()>
         ensures { OnPending result ⊥ }
     {
@@ -129,7 +129,7 @@ impl<'a, C: Clock, S: AsyncRead + AsyncWrite> TokioLink<'a, C, S> {
         }
     }
 
-    /// How many calls have failed.
+    /// The number of calls that have failed.
     pub fn faults(&self) -> u64
         ensures { result ≡ link_faults self.now }
     {
@@ -174,11 +174,11 @@ impl<'a, C: Clock, S: AsyncRead + AsyncWrite> PollLink for TokioLink<'a, C, S> {
         ensures later_reads { link_read_waits self.old ≤ link_read_waits self.new }
         ensures later_writes { link_write_waits self.old ≤ link_write_waits self.new }
 
-        // It returns what the stream gave, and no other byte of the stream is taken.
+        // It returns what the stream gave, and takes no other byte of the stream.
         ensures passed { S.reads (link_stream self.old) (bytes_moved result into.new) (link_stream self.new) }
     {
         self.limit.reads();
-        // A read that fails changes nothing of `into`.
+        // A read that fails leaves `into` unchanged.
         let mut block = [0; BLOCK];
         let most = into.len().min(BLOCK);
         match self.stream.poll_read(cx, &mut block[..most]) {

@@ -7,7 +7,7 @@ use Rattle.ept_conn.specs.Got.{GetsOn}
 use Rattle.ept_conn.proofs.Conversing.{HasWritten}
 use Rattle.ept_conn.proofs.serve.write_out.Given as given
 
--- what was to be sent at first was sent up to here, or the link failed
+-- what was to be sent at first has been sent up to here, or the link failed
 abbrev pub invariant-loop-session : given.invariant-loop-session
 invariant-loop-session g l = record {
   converses : (served : Served) (before after : ℕ) → StepsBy (GoesOn served (Rose before after) (Rose before after) l.initial.session l.session) (g.L.Link.wire l.initial.link) (g.L.Link.wire l.link);

@@ -17,7 +17,7 @@ holds : {P : Type 0} (r : Result (Unit {0}) FromHexError) → is_err r ≡ false
 holds (Ok x) fine h = h
 holds (Err x) fine h = absurd (false≢true (sym fine))
 
--- is bytes
+-- and these are bytes
 bytes-decoded : (text out : List ℕ) (r : Result (Unit {0}) FromHexError) → is_err r ≡ false → MatchResult (decode_sized text 8) (λ bytes. (r ≡ Ok tt) × (out ≡ bytes)) (λ e. r ≡ Err e) → (i : ℕ) → slice_index out i < 256
 bytes-decoded text out r fine h = by (decode_sized text 8) refl h
   where

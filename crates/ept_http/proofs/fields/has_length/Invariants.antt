@@ -5,7 +5,7 @@ use Rattle.httparse.specs.Spans.{header_bytes}
 use Rattle.ept_http.specs.Fields.{values_of}
 use Rattle.ept_http.proofs.fields.has_length.Given as goal
 
--- what the fields to come say is what all say
+-- the result for the fields to come is the result for all
 abbrev pub invariant-loop-line : goal.invariant-loop-line
 invariant-loop-line l =
     list_any (λ value. not (bytes_eq value (codes "0"))) (values_of (codes "Content-Length") (map (header_bytes l.head) (drop l.line-index l.lines)))

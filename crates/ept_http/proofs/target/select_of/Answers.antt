@@ -6,7 +6,7 @@ use Rattle.ept_http.specs.Targets.{AreSiftWords, IsSelectTarget}
 use Rattle.ept_http.proofs.TargetLemmas.{box-lacks, depths-lack}
 use Rattle.ept_http.proofs.target.select_of.Goals as goal
 
--- what stands behind the path
+-- what follows the path
 behind-path : (target rest tail : List ℕ) → target ≡ codes "/select?box=" ++ rest → target ≡ codes "/select?box=" ++ tail → rest ≡ tail
 behind-path target rest tail is spelled = append_cancel_left (codes "/select?box=") rest tail (sym is ∙ spelled)
 

@@ -4,7 +4,7 @@ use Rattle.ept_crowd.specs.Shown.{shown}
 use Rattle.ept_crowd.proofs.Turning.{HasGone}
 use Rattle.ept_crowd.proofs.crowd.Crowd.turn_all.Given as given
 
--- so many have had their turn
+-- this number of connections have had their turn
 abbrev pub invariant-loop : given.invariant-loop
 invariant-loop g l = record {
   gone : HasGone g.L.PollLink g.T.Store (shown l.fn.self) (shown l.self) l.fn.cx l.cx l.counter l.place;

@@ -138,7 +138,7 @@ returns-in-Ready-Some-clause-polled g c =
       any_moment = moved-twice g.T.Store.files g.T.Store.may_leave g.T.Store.moment g.T.Store.image_since c.args.self.now.store c.loop.self.store c.unit.new.store was.moved c.unit.ensures.any_moment;
     }
 
--- ---- it is at its end behind the last unit
+-- ---- it is at its end after the last unit
 
 turned : (g : given.Over) (c : goal.In-End g) → HasDone (seen g.L.PollLink g.T.Store c.args.self.now) (seen g.L.PollLink g.T.Store c.loop.self)
 turned g c = all-done c.loop.counter _ _ c.loop.invariant.units

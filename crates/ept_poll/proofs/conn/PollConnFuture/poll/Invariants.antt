@@ -7,7 +7,7 @@ use Rattle.ept_poll.specs.Units.{AreUnits}
 use Rattle.ept_poll.specs.Polls.{seen}
 use Rattle.ept_poll.proofs.conn.PollConnFuture.poll.Given as given
 
--- so many units were done
+-- these units were done
 abbrev pub invariant-loop : given.invariant-loop
 invariant-loop g l =
     let link = g.L.PollLink in
