@@ -38,7 +38,7 @@ module _ {D : Type 0} (files : D → Option Files) (may_leave : D → Files → 
     moments = λ t image le since. ⊎_elim (λ past. inl past) (λ (was : (earlier : Files) × may_leave old earlier × narrow earlier image). inr (was.0, was.1, widens was.0 image was.2)) (moved.moments t image le since);
   }
 
-  -- one move, then another, where the second step after the first is one step
+  -- one move, then another: together a move by a step that covers the first step and the second after it
   pub moves_both : (first second both : Files → Files → Type 0) → ((a b c : Files) → first a b → second b c → both a c) → ((a b : Files) → first a b → both a b) → (old mid new : D)
       → Moves files may_leave moment image_since first old mid → Moves files may_leave moment image_since second mid new → Moves files may_leave moment image_since both old new
   moves_both first second both composes widens old mid new f s = record {

@@ -26,7 +26,7 @@ appends_both (Some a) None c first second f s = absurd f
 appends_both (Some a) (Some b) None first second f s = absurd s
 appends_both (Some a) (Some b) (Some c) first second f s = s ∙ ap (λ (l : List ℕ). l ++ second) f ∙ append_assoc a first second
 
--- the front of a buffer, after more was read behind it
+-- the prefix of a buffer, after more was read into the part after it
 pub front_grown : (buffer new : List ℕ) (filled count k : ℕ) → filled ≤ length buffer → count ≤ length new → take (filled + count) (put_mid filled k buffer new) ≡ take filled buffer ++ take count new
 front_grown buffer new filled count k fits within =
     let size : length (take filled buffer) ≡ filled = omega (arith, length-take filled buffer) in
@@ -34,7 +34,7 @@ front_grown buffer new filled count k fits within =
     ∙ take-append-add (take filled buffer) (new ++ post_of filled k buffer) count
     ∙ ap (λ (l : List ℕ). take filled buffer ++ l) (take-append-le count new (post_of filled k buffer) within)
 
--- what was written so far of a list of bytes, of which the rest is still to be written
+-- what was written so far of a list of bytes; the rest of the list is still to be written
 pub record WrittenSoFar (old now : Option (List ℕ)) (from rest : List ℕ) : Type 0 where
   pub front : List ℕ
   pub split : from ≡ front ++ rest

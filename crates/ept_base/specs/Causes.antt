@@ -1,7 +1,7 @@
 -- Why a call may be refused: the count of the device's faults rose in that call.
 use Rattle.std.specs.Prelude.{◌≡◌, ℕ, ◌+◌, ◌-◌, ◌^◌, ◌≤◌, min, Result, Err, OnErr}
 
--- A count rose. It is kept in 64 bits, and stands still at its last value, which counts as risen too.
+-- A count rose. It is kept in 64 bits and stays at its last value, which counts as risen too.
 abbrev pub Rose : ℕ → ℕ → Type 0
 Rose before now = min (before + 1) (2 ^ 64 - 1) ≤ now
 

@@ -1,7 +1,8 @@
 -- What comes and goes over a link.
 use Rattle.std.specs.Prelude.{◌≡◌, ◌⊎◌, ℕ, List, [], ◌∷◌, ◌++◌, length}
 
--- the bytes taken, those that are still to come, those written, and of each read how many bytes were taken and written before it
+-- The bytes taken, those that are still to come, and those written. For each read, how many bytes were taken and
+-- written before it.
 pub record Wire : Type 0 where
   pub taken : List ℕ
   pub left : List ℕ
@@ -15,11 +16,11 @@ pub record Reads (bytes : List ℕ) (old new : Wire) : Type 0 where
   pub written : new.written ≡ old.written
   pub reads : new.reads ≡ old.reads ++ (length old.taken, length old.written) ∷ []
 
--- a read failed: no byte was taken, and the call is told of, but where there was no memory for it
+-- a read failed: no byte was taken, and the read is recorded unless there was no memory for it
 abbrev pub FailsToRead : Wire → Wire → Type 0
 FailsToRead old new = Reads [] old new ⊎ (new ≡ old)
 
--- a write passed these bytes on
+-- a write passed on these bytes
 pub record Writes (bytes : List ℕ) (old new : Wire) : Type 0 where
   pub taken : new.taken ≡ old.taken
   pub left : new.left ≡ old.left

@@ -4,25 +4,25 @@ ghost use Rattle.ept_base.specs.declared.errors.PutError.TheVariants as put;
 
 use std::alloc::{AllocError, AllocFailed};
 
-/// The fault of a device: its count of faults rose in the call that answers it.
+/// The fault of a device: its count of faults rose in the call that returns it.
 #[derive(Clone, Copy, Debug, PartialEq, Eq)]
 pub struct Failed;
 
-/// Why a call that gives something out was refused.
+/// Why a call that returns bytes or a source was refused.
 #[derive(Clone, Copy, Debug, PartialEq, Eq)]
 pub enum GetError {
     /// The device failed: its count of faults rose.
     Failed,
-    /// There was no memory.
+    /// Memory ran out.
     Memory,
 }
 
-/// Why a call that takes something in was refused.
+/// Why a call that writes, or that makes a file, was refused.
 #[derive(Clone, Copy, Debug, PartialEq, Eq)]
 pub enum PutError {
     /// The device failed: its count of faults rose.
     Failed,
-    /// There was no memory.
+    /// Memory ran out.
     Memory,
 }
 

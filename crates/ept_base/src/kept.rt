@@ -5,7 +5,7 @@ ghost use Rattle.ept_base.specs.Moves.{Moves, IsSettled};
 
 use crate::{PutError, Store};
 
-/// Makes the name read as these bytes, and all that is read stable: a put, then a sync.
+/// Makes the name read as these bytes, and flushes all that is read: a put, then a sync.
 ///
 /// At each moment in between, and after a refusal, no other name has changed.
 pub fn put_kept<T: Store>(store: &mut T, name: &str, bytes: &[u8]) -> Result<(), PutError>

@@ -1,9 +1,9 @@
-//! The outside world as traits: sources and the shelf that opens them, sinks, links, stores, spill
-//! files and the room that makes them, and the gate of a node.
+//! The outside world as traits: sources and their shelf, sinks, links, stores, spill files and their room, and the gate
+//! of a node.
 //!
-//! Each object counts its faults, and a call is refused as `Failed` only where that count rose in the
-//! call. What an object holds is told by those in memory and not by the real ones: clauses on contents
-//! hold where it is told.
+//! Each object counts its faults, and a call is refused as `Failed` only if that count rose in the call. The contents
+//! of objects in memory are visible to a proof, and those of real ones are not. Clauses on contents hold if they are
+//! visible.
 #![tactic(auto)]
 
 mod errors;

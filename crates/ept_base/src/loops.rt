@@ -5,10 +5,10 @@ ghost use Rattle.ept_base.specs.Devices.{ReadsFull, ReadsSome, AppendsPrefix};
 
 use crate::{Failed, Sink, Source};
 
-/// Fills `into`, or stops at the end of the source, and answers the number of bytes read. No more are
-/// given by the source.
+/// Fills `into`, or stops at the end of the source, and returns the number of bytes read. The source gives no more than
+/// these.
 ///
-/// After `Failed` the place is past the bytes that were read, which stand in the front of `into`.
+/// After `Failed` the place is past the bytes that were read, which are a prefix of `into`.
 pub fn read_full<S: Source>(source: &mut S, into: &mut [u8]) -> Result<usize, Failed>
     ensures ok { IfOk result (λ n. ReadsFull (S.left source.old) (S.left source.new) n into.new) }
     ensures failed { OnErr result (ReadsSome (S.left source.old) (S.left source.new) into.new) }

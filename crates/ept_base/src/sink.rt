@@ -7,14 +7,14 @@ use crate::Failed;
 
 /// A list of bytes that grows at its end.
 pub trait Sink {
-    /// The bytes written, where it tells.
+    /// The bytes written, if they are visible.
     ghost written: { Self → Option (List ℕ) };
 
     /// How often it has failed.
     ghost faults: { Self → ℕ };
 
-    /// Appends the first bytes of `from` and answers their number, which is 0 only where `from` is
-    /// empty. After `Failed` nothing was appended.
+    /// Appends the first bytes of `from` and returns their number, which is 0 only if `from` is empty. After `Failed`
+    /// nothing was appended.
     fn write(&mut self, from: &[u8]) -> Result<usize, Failed>
         ensures bound { WritesAtMost result from.now }
         ensures some { IfOk result (λ n. 0 < length from.now → 0 < n) }

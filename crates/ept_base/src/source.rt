@@ -9,23 +9,22 @@ use crate::{Failed, GetError};
 
 /// A list of bytes, and a place in it from which it is read.
 ///
-/// It can't be dropped where its type doesn't say so: its shelf takes it back by `retire`.
+/// It can't be dropped unless its type says so: its shelf takes it back by `retire`.
 pub trait Source {
-    /// All the bytes, where it tells.
+    /// All the bytes, if they are visible.
     ghost whole: { Self → Option (List ℕ) };
 
-    /// The bytes from the place on, where it tells.
+    /// The bytes from the place on, if they are visible.
     ghost left: { Self → Option (List ℕ) };
 
     /// How often it has failed.
     ghost faults: { Self → ℕ };
 
-    /// How many bytes it has given, since it was opened: a count of 64 bits, which stands still at its
-    /// last value.
+    /// How many bytes it has given since it was opened: a count of 64 bits, which stays at its last value.
     ghost given: { Self → ℕ };
 
-    /// Reads the next bytes into the front of `into` and answers their number, which is 0 only at the
-    /// end or where `into` is empty. After `Failed` the place and `into` are as they were.
+    /// Reads the next bytes to the start of `into` and returns their number. It is 0 only at the end or if `into` is
+    /// empty. After `Failed` the place and `into` are as they were.
     fn read(&mut self, into: &mut [u8]) -> Result<usize, Failed>
         ensures bound { ReadsAtMost result into.new }
         ensures bytes { ReadConsumes (left self.old) (left self.new) result into.new }
@@ -47,21 +46,20 @@ pub trait Source {
 pub trait Shelf {
     type Source: Source;
 
-    /// The bytes under each path, where it tells.
+    /// The bytes under each path, if they are visible.
     ghost files: { Self → Option Files };
 
-    /// How often it has failed, the sources that it took back included.
+    /// How often it has failed, including the sources that it took back.
     ghost faults: { Self → ℕ };
 
-    /// How many bytes the sources have given that it took back: a count of 64 bits, which stands still
-    /// at its last value.
+    /// How many bytes the sources that it took back have given: a count of 64 bits, which stays at its last value.
     ghost given: { Self → ℕ };
 
-    /// The paths that it was asked to open, in order, where it tells.
+    /// The paths that it was asked to open, in order, if they are visible.
     ghost asked: { Self → Option (List (List ℕ)) };
 
-    /// A source with the bytes of this path, at their start, without a fault and unread. A path that is
-    /// not in the map is `Failed`.
+    /// A source with the bytes of this path, at their start, without a fault and unread. A path that is not in the map
+    /// is `Failed`.
     fn open(&mut self, path: &str) -> Result<Self::Source, GetError>
         ensures opened { IfOk result (λ source.
             Opens (files self.old) path.now (Self.Source.whole source) (Self.Source.left source)) }
@@ -72,8 +70,8 @@ pub trait Shelf {
         ensures same { files self.new ≡ files self.old }
         ensures cause { HasCauseOf GetError.Failed (faults self.old) (faults self.new) result };
 
-    /// Takes a source back. The count of faults rises where the source has failed, and stands still
-    /// where it has not. The count of bytes goes on by those that the source has given.
+    /// Takes a source back. The count of faults rises if the source has failed, and is as it was otherwise. The bytes
+    /// that the source has given are added to the count of bytes.
     fn retire(&mut self, source: Self::Source)
         ensures later { faults self.old ≤ faults self.new }
         ensures failed { Self.Source.faults source ≢ 0 → Rose (faults self.old) (faults self.new) }

@@ -8,10 +8,10 @@ use crate::{GetError, PutError};
 
 /// A finite map from names to bytes, and what a crash may leave of it.
 ///
-/// A crash may undo or spoil what was put or removed since the last `sync`: each such name may then be
-/// absent or hold any bytes. Each way in which it may end is an image of the store.
+/// A crash may undo or spoil what was put or removed since the last `sync`. Each such name may then be missing or hold
+/// any bytes. Each state that a crash may leave is an image of the store.
 pub trait Store {
-    /// What is read under each name, where it tells.
+    /// What is read under each name, if it is visible.
     ghost files: { Self → Option Files };
 
     /// The images that a crash at this moment may leave.
@@ -30,8 +30,8 @@ pub trait Store {
     /// How many calls of `get` there were, up to the last value of 64 bits.
     ghost gets: { Self → ℕ };
 
-    /// Answers true with the file's bytes as the whole of `into`, or false with `into` empty where the
-    /// name is absent. After a refusal `into` is as it was.
+    /// Returns true with the file's bytes as the whole of `into`, or false with `into` empty if the name is missing.
+    /// After a refusal `into` is as it was.
     fn get(&mut self, name: &str, into: &mut Vec<u8>) -> Result<bool, GetError>
         ensures ok { IfOk result (λ found. Tells (λ all. Gets all name.now found into.new.items) (files self.old)) }
         ensures absent { IfOk result (λ found. found ≡ false → into.new.items ≡ []) }
@@ -42,8 +42,8 @@ pub trait Store {
         ensures counted { gets self.new ≡ counts_on (gets self.old) 1 }
         ensures cause { HasCauseOf GetError.Failed (faults self.old) (faults self.new) result };
 
-    /// Makes the name read as these bytes. After `Failed` the name may be absent or hold any bytes;
-    /// after `Memory` nothing changed.
+    /// Makes the name read as these bytes. After `Failed` the name may be missing or hold any bytes; after `Memory`
+    /// nothing changed.
     fn put(&mut self, name: &str, bytes: &[u8]) -> Result<(), PutError>
         ensures ok { OnOk result (StepsBy (Puts name.now bytes.now) (files self.old) (files self.new)) }
         ensures memory { IsErrOf result PutError.Memory → StepsBy SameFiles (files self.old) (files self.new)
@@ -54,8 +54,8 @@ pub trait Store {
         ensures counted { gets self.new ≡ gets self.old }
         ensures cause { HasCauseOf PutError.Failed (faults self.old) (faults self.new) result };
 
-    /// Makes the name absent, also where it was. After `Failed` the name may be absent or hold any
-    /// bytes; after `Memory` nothing changed.
+    /// Removes the name, which may be missing already. After `Failed` the name may be missing or hold any bytes; after
+    /// `Memory` nothing changed.
     fn remove(&mut self, name: &str) -> Result<(), PutError>
         ensures ok { OnOk result (StepsBy (Removes name.now) (files self.old) (files self.new)) }
         ensures memory { IsErrOf result PutError.Memory → StepsBy SameFiles (files self.old) (files self.new)
@@ -66,7 +66,7 @@ pub trait Store {
         ensures counted { gets self.new ≡ gets self.old }
         ensures cause { HasCauseOf PutError.Failed (faults self.old) (faults self.new) result };
 
-    /// Makes what is read the one image. After a refusal what is read and the images are as before.
+    /// Makes what is read the only image. After a refusal what is read and the images are as before.
     fn sync(&mut self) -> Result<(), PutError>
         ensures ok { OnOk result (IsSettled (files self.new) (may_leave self.new)) }
         ensures unchanged { OnErr result (SameImages (may_leave self.old) (may_leave self.new)) }
@@ -79,7 +79,7 @@ pub trait Store {
     /// An image of now is an image since each moment up to now.
     ghost counts_now: { (store : Self) (t : ℕ) (image : Files) → t ≤ moment store → may_leave store image → image_since store t image };
 
-    /// Since this moment there is no other.
+    /// Since this moment there is no other image.
     ghost only_now: { (store : Self) (image : Files) → image_since store (moment store) image → may_leave store image };
 
     /// What is read is an image.

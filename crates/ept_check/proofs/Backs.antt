@@ -1,4 +1,4 @@
--- What is told of files that read as before.
+-- What is found of files that read as before.
 use Rattle.std.proofs.Common.{◌≡◌, ℕ, List, Option, Some, Ok, Err, sym}
 use Rattle.ept_base.specs.Files.{Files, SameFiles, StepsBy, Tells}
 use Rattle.ept_point.specs.declared.point.Point.{Point}

@@ -1,4 +1,4 @@
--- The best point of a cell beats a point of the cell exactly where one of the points does.
+-- The best point of a cell beats a point of the cell if and only if one of the points does.
 use Rattle.std.proofs.Common.{◌≡◌, ◌∙◌, ◌+◌, ◌-◌, ◌/◌, ◌^◌, ◌<◌, ◌≤◌, ℕ, Bool, true, false, inl, inr, List, [], ◌∷◌, refl, sym, ap, subst, arith}
 use Rattle.std.specs.List.{All, list_any}
 use Rattle.std.proofs.lemmas.Bool.{false≢true}
@@ -41,7 +41,7 @@ cell-of rules key at is low inside =
       z = coarse (offset rules.cube at 2) rules.cube.e key.depth rules.cube.s key.z fits (ap (λ (k : VoxelKey). k.z) same);
     }
 
--- a point lies in the cell of another where the two share it
+-- a point lies in the cell of another if the two share it
 lies : (rules : Rules) (depth : ℕ) (p q : Point) → lies_in rules depth (cell_at rules.cube depth (place p)) q ≡ same_cell rules.cube depth (place q) (place p)
 unfolding cell_at same_cell
 lies rules depth p q = refl

@@ -68,7 +68,7 @@ module _ (once : TileIsOfOne) (rules : Rules) (files : Files) (nodes : List Node
         let node = tile-node files nodes tiles has t m in
         (all-member (fit.IsInOctree rules) t.key (keys_of nodes) in_octree (IsMember-map (λ (x : Node). x.0) (t.key, node.count) nodes node.listed)).0
 
-    -- no id of a tile stands in one before it
+    -- no id of a tile is in a tile before it
     new : (t u : Tile) → IsMember t tiles → IsMember u tiles → ComesBefore u.key t.key → (p q : Point) → IsMember p t.points → IsMember q u.points → same_id p q ≡ false
     new t u m n less p q a b =
         all-member (λ (y : Point). same_id p y ≡ false) q u.points (all-member (λ (x : Point). All (λ (y : Point). same_id x y ≡ false) u.points) p t.points (fact t m Twice u.key u.points (tile-node files nodes tiles has u n) less) a) b

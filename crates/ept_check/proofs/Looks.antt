@@ -1,4 +1,4 @@
--- What is found of a node by those above it and the ids so far.
+-- What the nodes above a node and the ids so far say of it.
 use Rattle.std.proofs.Common.{◌≡◌, ◌≢◌, ◌∙◌, ◌+◌, ◌<◌, ◌≤◌, ℕ, zero, suc, Bool, true, false, cond, ◌==◌, ◌&&◌, ◌||◌, not, inl, inr, ◌⊎◌, List, [], ◌∷◌, ◌++◌, length, get_or, take, refl, sym, ap, subst, arith, Option, Some, None, Result, Ok, Err}
 use Rattle.std.specs.Prelude.{nat_lt, MatchOption, IfOk, IsTrue, ◌↔◌}
 use Rattle.std.specs.List.{All, position, position_or_len}
@@ -65,7 +65,7 @@ none-passes f ps e q m =
 
 -- ---- the nodes above
 
--- those above, with one that comes behind the first of them
+-- the nodes above, with one that comes after the first of them
 pub come : (node : GridNode) (old new : List GridNode) → new ≡ take node.key.depth old ++ node ∷ [] → IsStack old → HasCome node old new
 come node old new is stack = subst (λ (w : List GridNode). HasCome node old w) (sym is) (record {
   there = IsMember-right node (take node.key.depth old) (node ∷ []) (inl refl);
@@ -155,7 +155,7 @@ module _ (above before : Type 0) (rules : Rules) (nodes : List Node) (key : Voxe
 some-length : (n : ℕ) → (suc n == 0) ≡ true → ⊥
 some-length n e = (let none : suc n ≡ 0 = grind (arith, nat_tests) in omega (arith, none))
 
--- a node that is not the root is filled where it has a point
+-- a node that is not the root is filled if it has a point
 pub filled-there : (key : VoxelKey) (points : List Point) (empty : Bool) → ¬ (key.depth ≡ 0) → empty ≡ (length points == 0) → IsTrue (not empty) ↔ IsFilled (tile_of key points)
 filled-there key [] empty deep is = (
   (λ e. absurd (by_test empty is e)),
@@ -178,7 +178,7 @@ filled-there key (p ∷ points) empty deep is = (
     by_test true none = absurd (none refl)
     by_test false none = refl
 
--- what is found where the points are none of a node
+-- what is found if the points are none of a node
 pub err-found : (r : Result (Option Fault) Memory) (error : GridError) (P : Option Fault → Type 0) → IfOk r (λ found. (found ≡ fault_of error) × (error ≢ grid.Memory)) → (error ≢ grid.Memory → P (fault_of error)) → IfOk r P
 err-found (Ok found) error P told then = subst P (sym told.0) (then told.1)
 err-found (Err e) error P told then = tt

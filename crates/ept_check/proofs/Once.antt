@@ -1,4 +1,4 @@
--- The answer that the files call for is one, and comes.
+-- The result that the files call for is unique, and is returned.
 use Rattle.std.proofs.Common.{◌≡◌, ◌≢◌, ◌∙◌, ◌<◌, ◌≤◌, ℕ, Bool, true, false, inl, inr, ◌⊎◌, ⊎_elim, List, length, map, refl, sym, ap, subst, arith, Option, Some, None, Result, Ok, Err, Ordering, Less, Equal, Greater}
 use Rattle.std.specs.List.{All, flat_map}
 use Rattle.std.specs.List.Sorted.{IsPermutation}
@@ -106,9 +106,9 @@ orphan-once : (nodes : List Node) (a b : VoxelKey) → IsFirstOrphan nodes a →
 orphan-once nodes a b one other =
     by-keys a b (λ less. one.orphan (other.first a one.listed less)) (λ less. other.orphan (one.first b other.listed less))
 
--- ---- one of what is told of listed nodes
+-- ---- the results of listed nodes
 
--- the answers that are told of the nodes
+-- the results that the nodes call for
 abbrev pub CallsNodes : Rules → Files → List Node → Answer → Type 0
 CallsNodes rules files nodes (Ok (Fit points count)) = IsFit rules files nodes points count
 CallsNodes rules files nodes (Ok (Unfit key why)) = IsUnfit rules files nodes key why
@@ -220,9 +220,9 @@ module _ (once : TileIsOfOne) (law : SampledIsFit) (rules : Rules) (files : File
   nodes-once (Err (Damaged (TileOf a))) (Err (Damaged (TileOf b))) one other = (let same : a ≡ b = damage-once a b one other in cc)
   nodes-once (Err (Damaged (TileOf a))) (Err Memory) one other = absurd other
 
--- ---- one answer
+-- ---- one result
 
--- an answer is that of a plan that is refused, or told of the nodes
+-- a result is that of a plan that is refused, or one that the nodes call for
 abbrev IsEither : Files → Answer → Type 0
 IsEither files a =
     ((e : QueryError) × (a ≡ Err (of_query e)) × CallsOfPlan EVERYWHERE 0 32 e files) ⊎ ((rules : Rules) × (nodes : List Node) × HasNodes rules nodes files × CallsNodes rules files nodes a)
@@ -260,7 +260,7 @@ module _ (once : TileIsOfOne) (law : SampledIsFit) (one-list : NodesAreOfOne) (o
   answer-comes files (Err (Damaged file)) told' = λ all is answer called. inl (called-once all (Err (Damaged file)) answer (told (CallsFor (Err (Damaged file))) files all is told') called)
   answer-comes files (Err Memory) told' = λ all is answer called. inr (inr refl)
 
--- ---- what is told of the nodes is called for
+-- ---- what is found of the nodes is called for
 
 module _ (once : TileIsOfOne) (sampled-law : FitIsSampled) (octree : NodesAreInOctree) (there : RootIsThere) where
   fit-of : (files : Files) (points count : ℕ) → IsOfNodes (λ rules nodes. AreFaultless rules files nodes points count) files → CallsFor (Ok (Fit points count)) files

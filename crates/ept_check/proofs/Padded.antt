@@ -72,7 +72,7 @@ octant-of-path key deep =
     let more : key.depth ≡ suc (key.depth - 1) = omega (arith, deep) in
     ap (λ (n : ℕ). get_or (last_steps n key) (key.depth - 1) 0) more ∙ last-step (key.depth - 1) key
 
--- so is the step of that depth to each key within it
+-- the step of that depth to each key within it is its octant too
 pub octant-at : (at key : VoxelKey) → 0 < at.depth → is_within at key ≡ true → get_or (path key) (at.depth - 1) 0 ≡ octant_of at
 octant-at at key deep inside =
     let r = path-within at key inside in

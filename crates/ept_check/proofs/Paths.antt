@@ -28,7 +28,7 @@ turned xs ys is = nat_list_cmp_total.antisymm ys xs ∙ ap ordering_reverse is
 behind : (xs ys : List ℕ) → slice_cmp nat_cmp xs ys ≡ Less → slice_cmp nat_cmp ys xs ≡ Greater
 behind xs ys is = nat_list_cmp_total.antisymm ys xs ∙ ap ordering_reverse is
 
--- of two keys one comes first
+-- one of two keys comes first
 pub one-first : (a b : VoxelKey) → IsKey a → IsKey b → a ≢ b → ComesBefore a b ⊎ ComesBefore b a
 one-first a b one other apart = by_order (slice_cmp nat_cmp (path a) (path b)) refl
   where

@@ -89,7 +89,7 @@ all-more P nodes i n within at was here =
     by_case k (inr (inl same)) = subst P same here
     by_case k (inr (inr none)) = absurd none
 
--- ---- lists that a loop goes through
+-- ---- lists that a loop runs through
 
 pub whole : {X : Type 0} (xs : List X) (i : ℕ) → i ≤ length xs → length xs ≤ i → take i xs ≡ xs
 whole xs i low high = ap (λ (k : ℕ). take k xs) (let e : i ≡ length xs = omega (arith, low, high) in e) ∙ take-length xs
@@ -117,7 +117,7 @@ parent-there nodes key found same there = λ deep. sym same ∙ there deep
 pub no-parent : (nodes : List Node) (key : VoxelKey) (found : Bool) → found ≡ is_among (keys_of nodes) (parent key) → HasParent (keys_of nodes) key → (0 < key.depth → found ≡ true)
 no-parent nodes key found same has = λ deep. same ∙ has deep
 
--- of nodes in key order, those before one stand in front of it
+-- if nodes are in key order, those before a node are in the list before it
 pub first-of : (nodes : List Node) (i : ℕ) (n : Node) → AreAscending (keys_of nodes) → i < length nodes → n ≡ get_or nodes i n → All (HasParent (keys_of nodes)) (keys_of (take i nodes)) → ¬ HasParent (keys_of nodes) n.0 → IsFirstOrphan nodes n.0
 first-of nodes i n ascend within at have none = record {
   listed = IsMember-map (λ (m : Node). m.0) n nodes (subst (λ (m : Node). IsMember m nodes) (sym at) (IsMember-contains (get_or nodes i n) nodes (Contains-get_or nodes i n within)));

@@ -54,7 +54,7 @@ is-false : (b : Bool) → ¬ (b ≡ true) → b ≡ false
 is-false true none = absurd (none refl)
 is-false false none = refl
 
--- at the key itself they are it alone
+-- at the key itself it is the only one
 pub from-key : (key top : VoxelKey) → same_key top key ≡ is_from key key top
 from-key key top =
     elim (either (same_key top key)) [

@@ -52,7 +52,7 @@ node-tile once files nodes tiles has key points node =
     let r = tile-at files nodes tiles has (key, node.count) node.listed in
     (r.0, r.1, r.2, once files key node.count r.0.points points r.3 node.tile)
 
--- where each node has a tile
+-- if each node has a tile
 pub tiles-for : (files : Files) (nodes : List Node) → ((n : Node) → IsMember n nodes → (points : List Point) × HasTile files n.0 n.1 points) → (tiles : List Tile) × HasTilesOf files nodes tiles
 tiles-for files [] each = ([], tt)
 tiles-for files (n ∷ nodes) each =

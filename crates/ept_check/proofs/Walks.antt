@@ -1,4 +1,4 @@
--- The walk over the nodes, in preorder: what is kept tells what the tiles tell.
+-- The walk over the nodes, in preorder: what is kept says what the tiles say.
 use Rattle.std.proofs.Common.{◌≡◌, ◌≢◌, ◌∙◌, ◌+◌, ◌<◌, ◌≤◌, ℕ, zero, suc, Bool, true, false, ◌||◌, inl, inr, ◌⊎◌, ⊎_elim, List, [], ◌∷◌, ◌++◌, length, get_or, take, drop, refl, sym, ap, subst, arith, Option, Some, None, Result, Ok, Err, ◌↔◌}
 use Rattle.std.specs.Prelude.{IfOk, MatchOption}
 use Rattle.std.specs.List.{All, AllPairs, list_any, sum_by}
@@ -43,7 +43,7 @@ use Rattle.ept_check.specs.Walking.{AreInPreorder, AreOfRules, LoseTo, HaveNewId
 use Rattle.ept_check.proofs.Paths.{before-self, before-both, below-before, between-within}
 use Rattle.ept_check.proofs.Tiled.{count-once, node-once}
 
--- ---- the facts, told in two ways
+-- ---- the facts, given in two ways
 
 pub lack-as : (A A' B B' : Type 0) (rules : Rules) (nodes : List Node) (key : VoxelKey) (points : List Point) → (A → A') → (A' → A) → (B → B') → (B' → B) → (f : Fault) → Fact A B rules nodes key points f → Fact A' B' rules nodes key points f
 lack-as A A' B B' rules nodes key points to-above from-above to-before from-before Orphan h = h
@@ -67,7 +67,7 @@ module _ (once : TileIsOfOne) (rules : Rules) (files : Files) (nodes order : Lis
   key-of : (n : Node) → IsMember n nodes → IsKey n.0
   key-of n m = are_keys n.0 (IsMember-map (λ (x : Node). x.0) n nodes m)
 
-  -- what is kept of the first so many nodes of the walk
+  -- what is kept of the first `i` nodes of the walk
   pub record IsSeen (i : ℕ) (seen : Seen) : Type 0 where
     pub clean : (n : Node) → IsMember n (take i order) → IsFaultless rules files nodes n.0
     pub above : (g : GridNode) → IsMember g seen.above.items → HasNode files nodes g.key g.points

@@ -1,4 +1,4 @@
--- Which answer the files of a folder call for, and which one comes.
+-- Which result the files of a folder call for, and which one is returned.
 use Rattle.std.specs.Prelude.{◌≡◌, ◌⊎◌, ℕ, ⊤, List, Option, Some, Result, Ok, Err}
 use Rattle.ept_base.specs.Files.{Files, Tells}
 use Rattle.ept_space.specs.declared.cube.Rules.{Rules}
@@ -21,7 +21,7 @@ Answer = Result Verdict CheckError
 abbrev pub IsOfNodes : (Rules → List Node → Type 0) → Files → Type 0
 IsOfNodes fact files = (rules : Rules) × (nodes : List Node) × HasNodes rules nodes files × fact rules nodes
 
--- the files call for an answer
+-- the files call for a result
 abbrev pub CallsFor : Answer → Files → Type 0
 CallsFor (Ok (Fit points nodes)) files = IsOfNodes (λ rules listed. IsFit rules files listed points nodes) files
 CallsFor (Ok (Unfit key why)) files = IsOfNodes (λ rules listed. IsUnfit rules files listed key why) files
@@ -32,7 +32,7 @@ CallsFor (Err (Damaged (file.Hierarchy key))) files = CallsOfPlan EVERYWHERE 0 3
 CallsFor (Err (Damaged (file.Tile key))) files = IsOfNodes (λ rules listed. IsFirstDamage rules files listed key) files
 CallsFor (Err Memory) files = ⊥
 
--- an answer is called for, or a device failed, or memory ran out
+-- a result is called for, or a device failed, or memory ran out
 abbrev pub IsCalledFor : Option Files → Answer → Type 0
 IsCalledFor files (Ok verdict) = Tells (CallsFor (Ok verdict)) files
 IsCalledFor files (Err NotComplete) = Tells (CallsFor (Err NotComplete)) files
@@ -40,11 +40,11 @@ IsCalledFor files (Err StoreFault) = ⊤
 IsCalledFor files (Err (Damaged file)) = Tells (CallsFor (Err (Damaged file))) files
 IsCalledFor files (Err Memory) = ⊤
 
--- this answer comes, unless the store failed or memory ran out
+-- this result is returned, unless the store failed or memory ran out
 abbrev pub ComesOrFails : Answer → Answer → Type 0
 ComesOrFails answer result = (result ≡ answer) ⊎ (result ≡ Err StoreFault) ⊎ (result ≡ Err Memory)
 
--- the answer that the files call for comes
+-- the result that the files call for is returned
 abbrev pub ComesAsCalled : Option Files → Answer → Type 0
 ComesAsCalled files result =
     (all : Files) → files ≡ Some all → (answer : Answer) → CallsFor answer all → ComesOrFails answer result

@@ -1,4 +1,5 @@
--- The facts of a node that are tried, in order, and the first that does not hold: each fault is the lack of one.
+-- The facts of a node that are tried, in order, and the first that does not hold. Each fault names the failure of a
+-- fact.
 use Rattle.std.specs.Prelude.{◌≡◌, ◌<◌, ℕ, true, List}
 use Rattle.ept_base.specs.Files.{Files}
 use Rattle.ept_point.specs.declared.point.Point.{Point}
@@ -22,7 +23,8 @@ number_of Few = 7
 number_of Empty = 8
 number_of Twice = 9
 
--- each child of a node has more points than the threshold, together with the nodes below the child, as the hierarchy counts
+-- By the counts of the hierarchy, each child of a node has more points than the threshold, together with the nodes
+-- below the child.
 abbrev pub HasFullChildren : Rules → List Node → VoxelKey → Type 0
 HasFullChildren rules nodes key =
     (o : ℕ) → o < 8 → has_child (keys_of nodes) key o ≡ true → rules.threshold < counted_within nodes (child key o)
@@ -31,7 +33,7 @@ HasFullChildren rules nodes key =
 abbrev pub tile_of : VoxelKey → List Point → Tile
 tile_of key points = record { key = key; points = points }
 
--- The fact that a fault is the lack of. What the fact is of the nodes above, and of those before, is given.
+-- The fact whose failure a fault names. The facts about the nodes above and about those before are given.
 abbrev pub Fact : (above before : Type 0) → Rules → List Node → VoxelKey → List Point → Fault → Type 0
 Fact above before rules nodes key points Orphan = HasParent (keys_of nodes) key
 Fact above before rules nodes key points Outside = LiesInBox rules (tile_of key points)
@@ -42,12 +44,12 @@ Fact above before rules nodes key points Few = HasFullChildren rules nodes key
 Fact above before rules nodes key points Empty = IsFilled (tile_of key points)
 Fact above before rules nodes key points Twice = before
 
--- the same where the tiles of a folder tell what is above and before
+-- the same, if the tiles of a folder determine what is above and before
 abbrev pub Holds : Rules → Files → List Node → VoxelKey → List Point → Fault → Type 0
 Holds rules files nodes key points =
     Fact (LoseAbove rules files nodes key points) (AreNew files nodes key points) rules nodes key points
 
--- of some facts, that of a fault is the first that does not hold
+-- the fact of this fault is the first that does not hold
 pub record IsFirstLack (holds : Fault → Type 0) (why : Fault) : Type 0 where
   pub lacks : ¬ holds why
   pub before : (other : Fault) → number_of other < number_of why → holds other

@@ -18,8 +18,8 @@ use Rattle.ept_check.specs.declared.fault.Fault.TheVariants.{Orphan}
 use Rattle.ept_check.specs.Nodes.{ComesBefore, HasNode}
 use Rattle.ept_check.specs.Facts.{Holds, IsFirstLack}
 
--- It is fit: the keys and counts of the hierarchy and the tiles are the sampling of the points in the tiles. These are so
--- many, and so are the nodes.
+-- It is fit: the keys and counts of the hierarchy and the tiles are the sampling of the points in the tiles. `points`
+-- is the number of these points, and `count` the number of the nodes.
 pub record IsFit (rules : Rules) (files : Files) (nodes : List Node) (points count : ℕ) : Type 0 where
   pub tiles : List Tile
   pub there : HasTilesOf files nodes tiles
@@ -28,11 +28,11 @@ pub record IsFit (rules : Rules) (files : Files) (nodes : List Node) (points cou
   pub points_are : points ≡ length (points_in tiles)
   pub count_is : count ≡ length nodes
 
--- each node but the root has its parent among the nodes
+-- each node except the root has its parent among the nodes
 abbrev pub HaveParents : List Node → Type 0
 HaveParents nodes = All (HasParent (keys_of nodes)) (keys_of nodes)
 
--- of the nodes, in key order, that of a key is the first whose parent is none of them
+-- the key is the first of the nodes, in key order, whose parent is not among them
 pub record IsFirstOrphan (nodes : List Node) (key : VoxelKey) : Type 0 where
   pub listed : IsMember key (keys_of nodes)
   pub orphan : ¬ HasParent (keys_of nodes) key
@@ -49,8 +49,8 @@ abbrev pub AreFaultlessBefore : Rules → Files → List Node → VoxelKey → T
 AreFaultlessBefore rules files nodes key =
     (other : VoxelKey) → IsMember other (keys_of nodes) → ComesBefore other key → IsFaultless rules files nodes other
 
--- Each node has its parent. Of the nodes, in preorder, that of a key is the first that is damaged or has a fault: a fact of
--- it is the first that does not hold.
+-- Each node has its parent. The node of the key is the first, in preorder, that is damaged or has a fault. The fact of
+-- this fault is the first that does not hold.
 pub record IsFirstFault (rules : Rules) (files : Files) (nodes : List Node) (key : VoxelKey) (why : Fault) : Type 0 where
   pub parents : HaveParents nodes
   pub before : AreFaultlessBefore rules files nodes key
@@ -58,7 +58,7 @@ pub record IsFirstFault (rules : Rules) (files : Files) (nodes : List Node) (key
   pub has : HasNode files nodes key points
   pub lack : IsFirstLack (Holds rules files nodes key points) why
 
--- the same where its tile is absent, not of its form, or of another number of points
+-- the same, if the tile of the node is missing, malformed, or has another number of points
 pub record IsFirstDamage (rules : Rules) (files : Files) (nodes : List Node) (key : VoxelKey) : Type 0 where
   pub parents : HaveParents nodes
   pub before : AreFaultlessBefore rules files nodes key
@@ -66,7 +66,7 @@ pub record IsFirstDamage (rules : Rules) (files : Files) (nodes : List Node) (ke
   pub listed : IsMember (key, count) nodes
   pub damaged : HasNoTile files key count
 
--- it is unfit: a node has no parent, else a node is the first with a fault
+-- it is unfit: a node has no parent, or otherwise a node is the first with a fault
 abbrev pub IsUnfit : Rules → Files → List Node → VoxelKey → Fault → Type 0
 IsUnfit rules files nodes key why =
     ((why ≡ Orphan) × IsFirstOrphan nodes key) ⊎ IsFirstFault rules files nodes key why

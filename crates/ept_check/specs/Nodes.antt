@@ -43,7 +43,7 @@ abbrev pub LoseAbove : Rules → Files → List Node → VoxelKey → List Point
 LoseAbove rules files nodes key points =
     (top : VoxelKey) (tops : List Point) → HasNode files nodes top tops → is_below top key ≡ true → All (λ p. loses rules top.depth tops p ≡ true) points
 
--- no id of them stands in a node before the key
+-- no id of these points is in a node before the key
 abbrev pub AreNew : Files → List Node → VoxelKey → List Point → Type 0
 AreNew files nodes key points =
     (other : VoxelKey) (others : List Point) → HasNode files nodes other others → ComesBefore other key → All (λ p. All (λ q. same_id p q ≡ false) others) points

@@ -12,7 +12,7 @@ use Rattle.ept_check.specs.declared.page.Page.{Page}
 unfoldable pub has_number : Page → ℕ → Bool
 has_number page number = bit_at (slice_index page.bytes.items (number / 8)) (number % 8) == 1
 
--- so is one of the page that is there, if one is
+-- a number is a member of the page, if there is one
 abbrev pub is_in : Option Page → ℕ → Bool
 is_in None number = false
 is_in (Some page) number = has_number page number
@@ -24,7 +24,7 @@ page_cmp a b = ordering_then (nat_cmp a.origin b.origin) (nat_cmp a.quotient b.q
 abbrev pub page_of : PointId → PageKey
 page_of one = record { origin = one.origin; quotient = one.number / 65536 }
 
--- its number there
+-- the number of the id there
 abbrev pub number_in_page : PointId → ℕ
 number_in_page one = one.number % 65536
 

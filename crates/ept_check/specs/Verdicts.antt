@@ -1,4 +1,4 @@
--- What is told of the nodes of a folder, once they are listed.
+-- What is found of the nodes of a folder, once they are listed.
 use Rattle.std.specs.Prelude.{◌≡◌, ℕ, ⊤, List, length, Option, Ok, Err}
 use Rattle.ept_base.specs.Files.{Files, Tells}
 use Rattle.ept_space.specs.declared.cube.Rules.{Rules}
@@ -12,14 +12,14 @@ use Rattle.ept_check.specs.Answers.{Answer, IsOfNodes, CallsFor}
 use Rattle.ept_check.specs.Nodes.{count_of}
 use Rattle.ept_check.specs.Folder.{HaveParents, IsFaultless, IsFirstFault, IsFirstDamage, IsUnfit}
 
--- no node has a fault, and they count so many points
+-- no node has a fault; `points` is the sum of their counts, and `count` the number of nodes
 pub record AreFaultless (rules : Rules) (files : Files) (nodes : List Node) (points count : ℕ) : Type 0 where
   pub parents : HaveParents nodes
   pub each : (key : VoxelKey) → IsMember key (keys_of nodes) → IsFaultless rules files nodes key
   pub points_are : points ≡ count_of nodes
   pub count_is : count ≡ length nodes
 
--- what the walk over nodes that have their parents tells
+-- what the walk over nodes that have their parents finds
 abbrev pub AnswersWalk : Rules → List Node → Option Files → Answer → Type 0
 AnswersWalk rules nodes files (Ok (Fit points count)) = Tells (λ all. AreFaultless rules all nodes points count) files
 AnswersWalk rules nodes files (Ok (Unfit key why)) = Tells (λ all. IsFirstFault rules all nodes key why) files
@@ -30,7 +30,7 @@ AnswersWalk rules nodes files (Err (Damaged (file.Hierarchy key))) = ⊥
 AnswersWalk rules nodes files (Err (Damaged (file.Tile key))) = Tells (λ all. IsFirstDamage rules all nodes key) files
 AnswersWalk rules nodes files (Err Memory) = ⊤
 
--- what is told of listed nodes
+-- what is found of listed nodes
 abbrev pub AnswersNodes : Rules → List Node → Option Files → Answer → Type 0
 AnswersNodes rules nodes files (Ok (Fit points count)) = Tells (λ all. AreFaultless rules all nodes points count) files
 AnswersNodes rules nodes files (Ok (Unfit key why)) = Tells (λ all. IsUnfit rules all nodes key why) files
@@ -41,7 +41,7 @@ AnswersNodes rules nodes files (Err (Damaged (file.Hierarchy key))) = ⊥
 AnswersNodes rules nodes files (Err (Damaged (file.Tile key))) = Tells (λ all. IsFirstDamage rules all nodes key) files
 AnswersNodes rules nodes files (Err Memory) = ⊤
 
--- what is told of a folder: the same, where its nodes are listed
+-- what is found of a folder: the same, if its nodes are listed
 abbrev pub AnswersFolder : Option Files → Answer → Type 0
 AnswersFolder files (Ok (Fit points count)) = Tells (λ all. IsOfNodes (λ rules nodes. AreFaultless rules all nodes points count) all) files
 AnswersFolder files (Ok (Unfit key why)) = Tells (CallsFor (Ok (Unfit key why))) files

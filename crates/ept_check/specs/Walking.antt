@@ -1,4 +1,4 @@
--- What the checker keeps on its way from node to node, and what it tells by it.
+-- What the checker keeps on its way from node to node, and what follows from it.
 use Rattle.std.specs.Prelude.{◌≡◌, ◌<◌, ◌≤◌, ◌-◌, ◌^◌, ◌⊎◌, ◌==◌, ◌&&◌, ◌||◌, ℕ, zero, suc, Bool, true, false, min, List, [], ◌∷◌, length, slice_index_or}
 use Rattle.std.specs.List.{All, AllPairs, list_any}
 use Rattle.std.specs.Option.{unwrap_or}
@@ -26,7 +26,8 @@ use Rattle.ept_check.specs.Nodes.{counted_within, AreInOctree, ComesBefore}
 abbrev pub total_at : BTreeMap VoxelKey ℕ → VoxelKey → ℕ
 total_at totals key = unwrap_or (get key_cmp totals key) 0
 
--- the set has the keys of the nodes, and the map what is counted at each key and below it, up to the last number of 64 bits
+-- The set has the keys of the nodes. The map has what is counted at each key and below it, up to the last number of 64
+-- bits.
 pub record IsOctree (octree : Octree) : Type 0 where
   pub cube : IsCube octree.rules.cube
   pub threshold_fits : octree.rules.threshold < 2 ^ 64 - 1
@@ -50,7 +51,7 @@ padded (suc n) (step ∷ steps) = suc step ∷ padded n steps
 unfoldable pub has_id : Ids → PointId → Bool
 has_id ids one = is_noted ids.pages one
 
--- the two are one
+-- the two ids are the same
 abbrev pub is_one_id : PointId → PointId → Bool
 is_one_id a b = (a.origin == b.origin) && (a.number == b.number)
 
@@ -73,11 +74,11 @@ LoseTo above key points =
 abbrev pub AreOfRules : Rules → List GridNode → Type 0
 AreOfRules rules above = All (λ (g : GridNode). g.rules ≡ rules) above
 
--- each stands no deeper in the list than in the octree
+-- no node is deeper in the list than in the octree
 abbrev pub IsStack : List GridNode → Type 0
 IsStack above = (i : ℕ) (d : GridNode) → i < length above → i ≤ (slice_index_or above i d).key.depth
 
--- a node came to those above: of these, all that are above it stay
+-- a node was added to those above: the nodes that are above it stay
 pub record HasCome (node : GridNode) (old new : List GridNode) : Type 0 where
   pub there : IsMember node new
   pub stay : (g : GridNode) → IsMember g old → is_below g.key node.key ≡ true → IsMember g new

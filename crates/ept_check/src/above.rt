@@ -50,7 +50,7 @@ fn loses(grid: &Grid, point: &Point) -> bool
     loses_in::<Brand>(grid, point, Blank::new(1))
 }
 
-// The same, where steps are counted by a ledger.
+// The same, with steps that are counted by a ledger.
 fn loses_in<L: Ledger>(grid: &Grid, point: &Point, blank: Blank) -> bool
     requires inside { InBox grid.now.rules.cube grid.now.key (place point.now) }
     requires name { blank.name ≡ L.name }

@@ -13,8 +13,8 @@ pub enum CheckError {
     NotComplete,
     /// The store failed: its count of faults rose.
     StoreFault,
-    /// A file is absent or not of its form, or a tile has another number of points than its hierarchy file
-    /// says. It is the first such file in the order in which they are read.
+    /// A file is missing or malformed, or a tile has another number of points than its hierarchy file says. It is the
+    /// first such file in the order in which they are read.
     Damaged { file: QueryFile },
     /// Memory ran out.
     Memory,

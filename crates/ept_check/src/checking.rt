@@ -32,18 +32,18 @@ use ept_query::{AllNodes, EVERYWHERE, all_nodes, complete_law, nodes_law};
 use ept_sample::point_law;
 use std::alloc::Global;
 
-/// Whether a finished folder is the sampling of its own points: reads the build file and the hierarchy, then the tiles in
-/// preorder, a node before its children and children by octant, each once.
+/// Whether a finished folder is the sampling of its own points. Reads the build file and the hierarchy, then each tile
+/// once, in preorder: a node before its children, and children by octant.
 ///
-/// `Fit` tells that the keys and counts of the hierarchy and the tiles are the sampling of the points in the tiles. It does
-/// not tell whose points they are, nor anything of `ept.json` and the manifest: those of the flights are what a build
-/// promises. `Unfit` tells the first node with which anything is wrong; `Orphan` is tried for all keys, in key order, before
-/// any tile.
+/// `Fit` means that the keys and counts of the hierarchy and the tiles are the sampling of the points in the tiles. It
+/// does not say whose points they are, nor anything of `ept.json` and the manifest. That they are the points of the
+/// flights is what a build promises. `Unfit` has the first node with which anything is wrong. `Orphan` is tried for all
+/// keys, in key order, before any tile.
 ///
 /// # Errors
 ///
-/// `NotComplete` where the done gate is not open; else `Damaged` with the first file that is absent or not of its form,
-/// in the order in which they are read, unless a node before it is unfit.
+/// `NotComplete` if the done gate is not open. Otherwise `Damaged` with the first file that is missing or malformed, in
+/// the order of reading. `Damaged` is not returned if a node before it is unfit.
 pub fn check<T: Store>(alloc: Global, store: &mut T) -> Result<Verdict, CheckError>
     ensures answers { IsCalledFor (T.files store.old) result }
     ensures comes { ComesAsCalled (T.files store.old) result }
@@ -73,7 +73,7 @@ fn judge<T: Store>(alloc: Global, store: &mut T) -> Result<Verdict, CheckError>
     judge_nodes(alloc, store, all)
 }
 
-// What is told of the nodes of a folder: the first of them without a parent, else what the walk tells.
+// The verdict on the nodes of a folder: the first node without a parent; if there is none, what the walk finds.
 fn judge_nodes<T: Store>(alloc: Global, store: &mut T, all: AllNodes) -> Result<Verdict, CheckError>
     requires shallow { All (λ (n : Node). n.0.depth ≤ all.rules.cube.depth) all.nodes.items }
     requires threshold { all.rules.threshold ≤ 2147483648 }

@@ -50,7 +50,7 @@ impl Ids {
         true
     }
 
-    /// The points' ids too.
+    /// Adds the points' ids.
     pub(crate) fn insert_all(&mut self, alloc: Global, points: &[Point]) -> Result<(), Memory>
         ensures { OnOk result ((q : PointId) → has_id self.new q ≡ (has_id self.old q || is_of points.now q)) }
     {
@@ -71,7 +71,7 @@ impl Ids {
         }
     }
 
-    // One more id.
+    // Adds an id.
     fn insert(&mut self, alloc: Global, one: PointId) -> Result<(), Memory>
         ensures { OnOk result ((q : PointId) → has_id self.new q ≡ (has_id self.old q || is_one_id one q)) }
     {
@@ -84,7 +84,7 @@ impl Ids {
         }
     }
 
-    // One more id, for which there is no page yet.
+    // Adds an id for which there is no page yet.
     fn begin_page(&mut self, alloc: Global, one: PointId) -> Result<(), Memory>
         requires { get page_cmp self.old.pages (page_of one) ≡ None }
         ensures { OnOk result ((q : PointId) → has_id self.new q ≡ (has_id self.old q || is_one_id one q)) }

@@ -12,7 +12,7 @@ use ept_space::Key;
 use std::alloc::Global;
 use std::collections::BTreeSet;
 
-/// The key one depth above; of the root the root.
+/// The key one depth above; for the root, the root.
 #[tactic(auto, unfolding(ept_space::specs::VoxelKey::parent))]
 pub(crate) fn parent(key: &Key) -> Key
     ensures { result ≡ parent key.now }
@@ -26,7 +26,7 @@ pub(crate) fn parent(key: &Key) -> Key
     }
 }
 
-/// The octant that a key is of its parent.
+/// The octant of its parent that a key is.
 #[tactic(auto, unfolding(ept_space::specs::VoxelKey::octant_of))]
 pub(crate) fn octant_of(key: &Key) -> u8
     ensures octant { result ≡ octant_of key.now }

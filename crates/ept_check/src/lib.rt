@@ -1,8 +1,8 @@
 //! The checker: whether a finished folder is the sampling of its own points.
 //!
-//! It reads the build file, the hierarchy and each tile once, node by node in preorder, and tries facts of each node: of the
-//! node alone, of it and the nodes above it, of it and the nodes below it, and of its ids. It keeps the hierarchy, the nodes
-//! above the one at hand, and the ids so far, and samples nothing.
+//! It reads the build file, the hierarchy and each tile once, node by node in preorder, and tries facts of each node.
+//! They are facts of the node alone, of its ids, and of it with the nodes above or below it. It keeps the hierarchy,
+//! the nodes above the current one, and the ids so far, and samples nothing.
 #![tactic(auto)]
 
 mod above;

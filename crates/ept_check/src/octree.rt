@@ -12,8 +12,8 @@ use ept_grid::OCTANTS;
 use ept_space::{Key, Rules, child};
 use std::collections::{BTreeMap, BTreeSet};
 
-/// The hierarchy of a folder: the nodes with their counts, in key order, their keys, and how many points there are
-/// at each key and below it.
+/// The hierarchy of a folder: the nodes with their counts, in key order, and their keys. It also has the number of
+/// points at each key and below it.
 #[derive(Drop)]
 pub(crate) struct Octree {
     pub(crate) rules: Rules,

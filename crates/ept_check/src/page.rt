@@ -7,7 +7,7 @@ use std::alloc::{AllocError, Global};
 /// How many bytes the bits of a page take.
 const BYTES: usize = 8_192;
 
-/// A set of numbers of 16 bits: a number `n` is a member where the bit `n % 8` of the byte `n / 8` is set.
+/// A set of numbers of 16 bits: a number `n` is a member if the bit `n % 8` of the byte `n / 8` is set.
 #[derive(Drop)]
 pub(crate) struct Page {
     bytes: Vec<u8>,
@@ -42,7 +42,7 @@ impl Page {
     }
 }
 
-// So many bytes, all of which are 0.
+// A list of `count` bytes, all of which are 0.
 fn zeros(alloc: Global, count: usize) -> Result<Vec<u8>, AllocError>
     ensures length { IfOk result (λ bytes. length bytes.items ≡ count) }
     ensures zeros { IfOk result (λ bytes. (i : ℕ) → slice_index bytes.items i ≡ 0) }

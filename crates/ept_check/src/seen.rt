@@ -39,8 +39,8 @@ impl Seen {
         }
     }
 
-    /// What is wrong with the next node, which has these points: the first fact of it that does not hold. Where nothing is, the node
-    /// is one of those so far.
+    /// What is wrong with the next node, which has these points: the first fact of it that does not hold. If nothing is
+    /// wrong, the node is added to those so far.
     pub(crate) fn look(
         &mut self,
         alloc: Global,
@@ -98,8 +98,8 @@ impl Seen {
         None
     }
 
-    // One more node. Of the others at most as many stay as there are above it: those are the first, since a node above stands no
-    // deeper in the list than in the octree.
+    // Adds a node. It keeps the first nodes of the list, at most the number that are above the new one. A node above is
+    // no deeper in the list than in the octree, so all nodes above stay.
     fn take(&mut self, alloc: Global, grid: Grid, points: &[Point]) -> Result<(), Memory>
         requires { IsStack self.old.above.items }
         ensures stack { OnOk result (IsStack self.new.above.items) }

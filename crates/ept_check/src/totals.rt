@@ -11,7 +11,7 @@ use ept_space::Key;
 use std::alloc::Global;
 use std::collections::BTreeMap;
 
-/// How many points there are at each key and below it. A number stands still at the last of 64 bits.
+/// How many points there are at each key and below it. A number saturates at 2^64 - 1.
 pub(crate) fn totals_of(alloc: Global, nodes: &[(Key, u64)]) -> Result<BTreeMap<Key, u64>, Memory>
     ensures { IfOk result (λ totals. (top : VoxelKey) → total_at totals top ≡ min (counted_within nodes.now top) (2 ^ 64 - 1)) }
 {

@@ -19,8 +19,8 @@ use ept_query::{complete_law, tile_points};
 use ept_space::Key;
 use std::alloc::Global;
 
-/// What the folder is found to be, whose nodes are given in preorder: gets each tile once, up to the first node with
-/// which anything is wrong.
+/// What the folder with these nodes, in preorder, is found to be. Reads each tile once, up to the first node with which
+/// anything is wrong.
 pub(crate) fn walk<T: Store>(
     alloc: Global,
     store: &mut T,

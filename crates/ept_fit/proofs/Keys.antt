@@ -75,7 +75,7 @@ fewer : (test : Point → Bool) (keep : Tile → Bool) (nodes : List Tile) → c
 fewer test keep [] = omega arith
 fewer test keep (node ∷ nodes) = fewer_step test keep node nodes (keep node) (fewer test keep nodes)
 
--- so their ids are distinct, where those of all points are
+-- so their ids are distinct, if those of all points are
 pub distinct-within : (nodes : List Tile) (top : VoxelKey) → HasDistinctIds (points_in nodes) → HasDistinctIds (points_within nodes top)
 unfolding HasDistinctIds
 distinct-within nodes top once p = omega (arith, once p, fewer (same_id p) (λ (n : Tile). is_within top n.key) nodes)

@@ -19,7 +19,7 @@ keys-swap (t ∷ ts) i j =
     ∙ (ap (λ (w : List VoxelKey). set w j (key (get_or nodes i t))) (map-set key nodes i (get_or nodes j t) ∙ ap (λ (k : VoxelKey). set (keys_in nodes) i k) (sym (get_or-map key nodes j t)))
     ∙ ap (λ (k : VoxelKey). set (set (keys_in nodes) i (get_or (keys_in nodes) j t.key)) j k) (sym (get_or-map key nodes i t)))
 
--- nodes with these keys, which are those of the walk
+-- nodes with these keys; they are the nodes of the walk
 abbrev Ordered : List Tile → List VoxelKey → Type 0
 Ordered walk keys = (nodes : List Tile) × (keys_in nodes ≡ keys) × IsPermutation nodes walk
 

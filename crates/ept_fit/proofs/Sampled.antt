@@ -79,7 +79,7 @@ module _ (rules : Rules) (points : List Point) (can : CanBeSampled rules points)
   key_is key e =
       member-among keys key (subst (λ (w : List VoxelKey). IsMember key w) (sym (tiles-keys rules points)) (node_keys-IsMember rules points key can.cube can.inside e))
 
-  -- an octant is open in the state where the child is a node
+  -- an octant is open in the state if the child is a node
   opens : (key : VoxelKey) (o : ℕ) → o < 8 → has_open (node_at s.nodes key) o ≡ has_child keys key o
   opens key o low =
       landed-opens rules points points s key o law refl (sym (append-nil points)) low ∙ same (is_node rules points (child key o)) refl

@@ -1,4 +1,4 @@
--- Nodes as a state of the core: nothing is left or flies, and an octant is open where its child is a node.
+-- Nodes as a state of the core: nothing is left or flies, and an octant is open if its child is a node.
 use Rattle.std.proofs.Common.{◌≡◌, ◌∙◌, ℕ, ◌<◌, true, false, inl, inr, List, [], ◌∷◌, ◌++◌, map, refl, sym, ap, subst}
 use Rattle.std.specs.List.{flat_map}
 use Rattle.ept_point.specs.declared.point.Point.{Point}
@@ -71,7 +71,7 @@ module _ (nodes : List Tile) (rising : IsRising key_before (keys_in nodes)) wher
       let r = member-map (entry_of keys) e nodes m in
       same_key-apart e.0 key (λ at. not_both (is_among keys key) (subst (λ (w : VoxelKey). is_among keys w ≡ true) (ap (λ (w : Entry). w.0) r.2 ∙ at) (node-among nodes r.0 r.1)) none)))
 
-  -- so what holds of each node, and where none is, holds at each key
+  -- so what holds of each node, and wherever there is none, holds at each key
   pub at-each : (P : VoxelKey → Node → Type 0) → ((node : Tile) → IsMember node nodes → P node.key (standing keys node)) → ((key : VoxelKey) → P key blank) → (key : VoxelKey) → P key (node_at s.nodes key)
   at-each P each none key =
       elim (either (is_among keys key)) [

@@ -29,7 +29,7 @@ far : (walk : List Tile) (i j : ℕ) (d : Tile) → InPreorder walk → i ≤ j 
 far walk i j d is near inside =
     sorted_far (λ (a b : Tile). is_lt (slice_cmp nat_cmp (path a.key) (path b.key))) ranks walk is i j d near inside
 
--- so the one of two nodes that has the lesser path comes first
+-- so the first of two nodes is the one with the lesser path
 lesser_first : (walk : List Tile) (i j : ℕ) (d : Tile) → InPreorder walk → i < length walk → is_less (path (get_or walk i d).key) (path (get_or walk j d).key) ≡ true → i < j
 lesser_first walk i j d is inside less =
     elim (cases_lt i j) [

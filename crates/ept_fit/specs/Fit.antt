@@ -78,7 +78,7 @@ HasFullChildren rules nodes node =
 
 -- ---- all of them
 
--- the nodes are fit: the keys are those of an octree, ascending, and each node has what the rules ask of one
+-- the nodes are fit: the keys are those of an octree, ascending, and each node has what the rules ask of a node
 pub record AreFit (rules : Rules) (nodes : List Tile) : Type 0 where
   pub cube : IsCube rules.cube
   pub ascend : AreAscending (keys_in nodes)

@@ -36,7 +36,7 @@ abbrev pub WalkHasNodes : Type 0
 WalkHasNodes =
     (keys : List VoxelKey) (walk : List Tile) → IsPermutation keys (keys_in walk) → InPreorder walk → (nodes : List Tile) × (keys_in nodes ≡ keys) × IsWalk nodes walk
 
--- no id is in the nodes twice exactly if none is in the walk twice
+-- no id is in the nodes twice if and only if none is in the walk twice
 abbrev pub WalkIsOnce : Type 0
 WalkIsOnce =
     (nodes walk : List Tile) → IsWalk nodes walk → HasDistinctIds (points_in nodes) ↔ HasDistinctIds (points_in walk)

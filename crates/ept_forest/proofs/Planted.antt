@@ -1,4 +1,4 @@
--- Blank nodes, of which the first is begun.
+-- Blank nodes; the first of them is begun.
 use Rattle.std.proofs.Common.{◌≡◌, ℕ, ◌≤◌, ◌∙◌, Option, List, [], ◌∷◌, length, set, refl, ap, sym, subst, arith}
 use Rattle.std.specs.List.{All}
 use Rattle.std.proofs.lemmas.List.Elements.{All-cons, All-head, All-tail, All-weaker}

@@ -9,14 +9,14 @@ use Rattle.ept_node.proofs.Here.{blank-away}
 use Rattle.ept_forest.specs.Slots.{residents_of, IsBlank}
 
 module _ {F : Type 0} where
-  -- 1 where its points are in memory
+  -- 1 if its points are in memory
   abbrev pub weight : Node F → ℕ
   weight n = cond (is_here n) 1 0
 
   pub residents-cons : (n : Node F) (ns : List (Node F)) → residents_of (n ∷ ns) ≡ weight n + residents_of ns
   residents-cons n ns = sum_by-cons weight n ns
 
-  -- none is, of blank nodes
+  -- no blank node has its points in memory
   pub none-here : (ns : List (Node F)) → All IsBlank ns → residents_of ns ≡ 0
   none-here [] all = refl
   none-here (n ∷ ns) all =

@@ -1,4 +1,4 @@
--- What a forest is once the node that it lent is given back.
+-- What a forest is once the node that it lent is returned.
 use Rattle.std.specs.Prelude.{ℕ, ◌-◌}
 use Rattle.std.specs.Borrow.{Lends, MutBor, Fml, RattleType}
 use Rattle.std.specs.Vec.{with_item}
@@ -11,6 +11,6 @@ use Rattle.ept_forest.specs.contracts.forest.Forest as forest
 abbrev pub with_node : {F : Type 0} → Forest F → ℕ → Node F → Forest F
 with_node it slot n = record it { nodes = with_item it.nodes (slot - 1) n }
 
--- the forest ends with what the caller leaves of the node of a slot
+-- the forest ends with the node of a slot as the caller leaves it
 abbrev pub LendsNode : (F : RattleType) → MutBor (Forest F.Denot) → ℕ → MutBor (Node F.Denot) → Fml
 LendsNode F it slot lent = Lends (forest.the_row F) (node.the_row F) it lent (with_node it.now slot)

@@ -8,7 +8,7 @@ use Rattle.ept_node.specs.declared.state.NodeState.TheVariants.{Blank, Resident}
 use Rattle.ept_node.specs.Shown.{empty_node, no_children, file_of, state_of, node_of, is_here, children_of}
 use Rattle.ept_forest.specs.declared.forest.Forest.{Forest}
 
--- the nodes of the slots, that of slot 1 in front
+-- the nodes of the slots, from slot 1 on
 abbrev pub nodes_of : {F : Type 0} → Forest F → List (Node F)
 nodes_of forest = forest.nodes.items
 
@@ -30,8 +30,8 @@ pub record IsBegun {F : Type 0} (held : F → Option (List ℕ)) (rules : Rules)
 abbrev pub IsBlank : {F : Type 0} → Node F → Type 0
 IsBlank node = state_of node ≡ Blank
 
--- A new forest: so many nodes, that of the root begun, the others blank, each with a file that has not failed and was
--- asked to keep nothing.
+-- A new forest has this number of nodes. The root's node is begun, and the others are blank. Each has a file that has
+-- not failed and was asked to keep nothing.
 pub record IsPlanted {F : Type 0} (held : F → Option (List ℕ)) (faults keeps : F → ℕ) (count : ℕ) (rules : Rules) (forest : Forest F) : Type 0 where
   pub slots : length (nodes_of forest) ≡ count
   pub used : used_of forest ≡ 1
@@ -47,7 +47,7 @@ pub record IsPlanted {F : Type 0} (held : F → Option (List ℕ)) (faults keeps
 abbrev pub faults_of : {F : Type 0} → (F → ℕ) → List (Node F) → ℕ
 faults_of faults nodes = sum_by (λ node. faults (file_of node)) nodes
 
--- a count as far as 64 bits tell it
+-- a count in 64 bits, which stays at the last value
 abbrev pub told : ℕ → ℕ
 told n = min n (2 ^ 64 - 1)
 

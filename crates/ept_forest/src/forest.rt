@@ -15,10 +15,10 @@ use ept_node::{Node, NodeError};
 use ept_space::{Key, Rules};
 use std::alloc::Global;
 
-/// All nodes of a table in the order of its slots, slot 1 at the front, and how many of the slots are drawn. The root's
-/// is slot 1, and the nodes of slots that are not drawn are blank.
+/// All nodes of a table in the order of its slots, from slot 1 on, and how many of the slots are drawn. The root's is
+/// slot 1, and the nodes of slots that are not drawn are blank.
 ///
-/// It can't be dropped where its spill files can't: their room takes them back by `retire_all`.
+/// It can't be dropped if its spill files can't: their room takes them back by `retire_all`.
 #[derive(Debug)]
 pub struct Forest<F> {
     nodes: Vec<Node<F>>,
@@ -29,12 +29,12 @@ impl<F: SpillFile> Forest<F> {
     ghost use Rattle.ept_forest.specs.Slots.{nodes_of, used_of, residents_of, IsPlanted, faults_of, kept_by, told};
     ghost use Rattle.ept_forest.specs.Lending.{LendsNode};
 
-    /// A forest of so many slots, of which that of the root is drawn. The root is resident without points, and all
-    /// other nodes are blank. After a refusal the room has its files back.
+    /// A forest with this number of slots; only the root's is drawn. The root is resident without points, and all other
+    /// nodes are blank. After a refusal the room has its files back.
     ///
     /// # Errors
     ///
-    /// `Failed` where the room fails to make a file.
+    /// `Failed` if the room fails to make a file.
     pub fn new<R: Room<File = F>>(
         alloc: Global,
         room: &mut R,
@@ -67,11 +67,11 @@ impl<F: SpillFile> Forest<F> {
         self.used
     }
 
-    /// Draws the next slot, and answers its number.
+    /// Draws the next slot, and returns its number.
     ///
     /// # Errors
     ///
-    /// `Full` where each slot is drawn.
+    /// `Full` if each slot is drawn.
     pub fn add(&mut self) -> Result<u32, Full>
         ensures ok { IfOk result (λ slot. (slot ≡ used_of self.old + 1) × (slot ≤ length (nodes_of self.old))) }
         ensures full { OnErr result (min (length (nodes_of self.old)) (2 ^ 32 - 1) ≤ used_of self.old) }
@@ -105,7 +105,7 @@ impl<F: SpillFile> Forest<F> {
         count
     }
 
-    /// The refusal that broke the first broken node; None where no node is broken.
+    /// The refusal that broke the first broken node; `None` if no node is broken.
     pub fn fault(&self) -> Option<NodeError>
         ensures none { IsNone result → All (λ node. fault_of node ≡ None) (nodes_of self.now) }
         ensures some { IfSome result (λ why. Any (λ node. fault_of node ≡ Some why) (nodes_of self.now)) }
@@ -127,7 +127,7 @@ impl<F: SpillFile> Forest<F> {
         (nodes, used)
     }
 
-    /// The forest of nodes in the order of their slots, of which so many are drawn. It takes no memory.
+    /// The forest of nodes in the order of their slots, with this number of slots drawn. It takes no memory.
     pub fn from_nodes(nodes: Vec<Node<F>>, used: u32) -> Forest<F>
         ensures nodes { nodes_of result ≡ nodes.items }
         ensures used { used_of result ≡ used }
@@ -135,7 +135,7 @@ impl<F: SpillFile> Forest<F> {
         Forest { nodes, used }
     }
 
-    /// Gives all spill files back to their room. It takes no memory.
+    /// Returns all spill files to their room. It takes no memory.
     pub fn retire_all<R: Room<File = F>>(self, room: &mut R)
         ensures later { R.faults room.old ≤ R.faults room.new }
         ensures failed { 0 < faults_of F.faults (nodes_of self) → Rose (R.faults room.old) (R.faults room.new) }
@@ -147,7 +147,7 @@ impl<F: SpillFile> Forest<F> {
     }
 }
 
-// Makes a file for each slot, with a blank node over it, onto a list that has room for them.
+// Makes a file for each slot, with a blank node over it, and appends it to a list that has room for them.
 fn plant<F: SpillFile, R: Room<File = F>>(
     room: &mut R,
     slots: u32,
@@ -169,7 +169,7 @@ fn plant<F: SpillFile, R: Room<File = F>>(
     Ok(())
 }
 
-// Gives the files of the nodes back to their room.
+// Returns the files of the nodes to their room.
 fn retire_nodes<F: SpillFile, R: Room<File = F>>(mut nodes: Vec<Node<F>>, room: &mut R)
     ensures later { R.faults room.old ≤ R.faults room.new }
     ensures failed { 0 < faults_of F.faults nodes.items → Rose (R.faults room.old) (R.faults room.new) }

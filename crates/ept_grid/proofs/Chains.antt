@@ -40,7 +40,7 @@ way-step heads nexts spots column level below (suc link) chained way some is_bel
     let lower : level_at spots link < level = subst (λ k. level_at spots k < level) same is_below in
     subst (λ k. IsOnWay spots column level (suc link) (slice_index nexts k)) (sym same) (step-at heads nexts spots column level link chained way.leads.there of_column lower)
 
--- how far it still is to a level
+-- how far it is to a level
 abbrev pub left : List Spot → ℕ → ℕ → ℕ
 left spots level zero = 0
 left spots level (suc link) = level - level_at spots link
@@ -60,7 +60,7 @@ way-nearer heads nexts spots column level below (suc link) chained way some is_b
     let lower : level_at spots link < level = subst (λ k. level_at spots k < level) same is_below in
     subst (λ k. left spots level (slice_index nexts k) < left spots level (suc link)) (sym same) (left-falls spots column level link (slice_index nexts link) (next-of heads nexts spots column link chained way.leads.there of_column) lower)
 
--- ---- what the cut tells
+-- ---- what the cut implies
 
 -- each cell of the column is below the level, or not below what the cut leads to
 pub cut-above : (spots : List Spot) (column level below above k : ℕ) → IsCut spots column level below above → k < length spots → column_at spots k ≡ column → after spots below ≤ level_at spots k → (0 < above) × (level_at spots (above - 1) ≤ level_at spots k)
@@ -101,7 +101,7 @@ which spots s k within =
     let all = length-with_one spots s in
     elim (cases_lt k (length spots)) [ inl low ↦ inl low | inr high ↦ inr (omega arith) ]
 
--- the new cell is not the one that a link should lead to
+-- the new cell is not the cell that a link should lead to
 abbrev ComesLater : List Spot → Spot → ℕ → ℕ → ℕ → Type 0
 ComesLater spots s column low link =
     s.column ≡ column → low ≤ s.level → (0 < link) × (level_at spots (link - 1) ≤ s.level)
@@ -129,7 +129,7 @@ leads-more spots s column low link leads later =
     none_new is in_column =
         elim (cases_lt s.level low) [ inl below ↦ below | inr not_below ↦ let h : 0 < link = (later in_column not_below).0 in absurd (omega arith) ]
 
--- a link leads to the new cell, where no cell comes before
+-- a link leads to the new cell, if no cell comes before
 leads-new : (spots : List Spot) (s : Spot) (low : ℕ) → low ≤ s.level → ((k : ℕ) → k < length spots → column_at spots k ≡ s.column → low ≤ level_at spots k → s.level ≤ level_at spots k) → LeadsTo (with_one spots s) s.column low (length spots + 1)
 leads-new spots s low from first_of =
     let all = length-with_one spots s in
@@ -321,14 +321,14 @@ low-after spots column level (suc j) above k way is =
     let h : level_at spots j < level = subst (λ n. level_at spots n < level) same (way.is_below (omega arith)) in
     omega arith
 
--- one more cell, behind another or first
+-- one more cell, after another or first
 pub chained-with : (heads nexts : List ℕ) (spots : List Spot) (s : Spot) (below above : ℕ) → IsChained heads nexts spots → s.column < length heads → IsCut spots s.column s.level below above → IsAlone spots s → IsChained (heads_with heads s.column below (length spots + 1)) (nexts_with nexts below above (length spots + 1)) (spots ++ s ∷ [])
 chained-with heads nexts spots s zero above chained low cut alone =
     chained-first heads nexts spots s above chained low cut alone
 chained-with heads nexts spots s (suc j) above chained low cut alone =
     chained-between heads nexts spots s j above chained cut alone
 
--- where the cut leads to no cell of the level, none stands there
+-- if the cut leads to no cell of the level, there is none
 pub alone-at-cut : (spots : List Spot) (s : Spot) (below above : ℕ) → IsCut spots s.column s.level below above → (0 < above → level_at spots (above - 1) ≢ s.level) → IsAlone spots s
 alone-at-cut spots s below above cut other k within in_column level =
     let at = cut-above spots s.column s.level below above k cut within in_column (low-after spots s.column s.level below above k cut.way level) in

@@ -23,7 +23,7 @@ use Rattle.ept_grid.proofs.Seeks.{count-cons}
 
 -- ---- a point in a cell, by the place of the cell
 
--- where a cell stands, by its index on each axis
+-- where a cell is, by its index on each axis
 abbrev pub spot_at : Rules → List ℕ → Spot
 spot_at rules cell = record { column = column_of rules.cube (slice_index cell 0) (slice_index cell 1); level = slice_index cell 2 }
 
@@ -71,7 +71,7 @@ at-most-one {X} test (x ∷ xs) d one =
     step true is rest = let none = others is in omega arith
     step false is rest = omega arith
 
--- what passes a test passes one of two others
+-- what passes a test passes one of two other tests
 count-parts : {X : Type 0} (f g h : X → Bool) (xs : List X) → ((x : X) → h x ≡ true → (f x ≡ true) ⊎ (g x ≡ true)) → count_by h xs ≤ count_by f xs + count_by g xs
 count-parts f g h [] parts = omega arith
 count-parts {X} f g h (x ∷ xs) parts =
@@ -103,7 +103,7 @@ split-level : (c column l z : ℕ) → ((c == column) && nat_lt l (z + 1)) ≡ t
 split-level c column l z h =
     elim (cases_lt l z) [ inl low ↦ inl (grind (arith, nat_tests)) | inr high ↦ inr (grind (arith, nat_tests)) ]
 
--- no two of the spots are one
+-- no two of the spots are the same
 abbrev pub NoTwo : List Spot → Type 0
 NoTwo spots =
     (i j : ℕ) → i < length spots → j < length spots → column_at spots i ≡ column_at spots j → level_at spots i ≡ level_at spots j → i ≡ j
@@ -182,7 +182,7 @@ in-box-level key n z low high =
     let e : (key + 1) * n ≡ key * n + n = omega arith in
     div-eq_of_lt-le n low (omega arith)
 
--- a cell of a level has a point, where a winner stands there
+-- a cell of a level has a point, if a winner is there
 any-there : (rules : Rules) (key : VoxelKey) (ws : List Point) (cell : List ℕ) (k : ℕ) → key.depth + rules.cube.s ≤ rules.cube.e → AllInBox rules.cube key ws → IsCellOf rules key cell → k < length (map (spot rules key.depth) ws) → get_or (map (spot rules key.depth) ws) k nowhere ≡ spot_at rules cell → list_any (lies_in rules key.depth cell) ws ≡ true
 any-there rules key [] cell k whole inside of_box within stands = absurd (omega arith)
 any-there rules key (w ∷ ws) cell k whole inside of_box within stands =

@@ -17,12 +17,12 @@ use Rattle.ept_grid.proofs.Chains.{chained-with}
 use Rattle.ept_grid.proofs.Winners.{winner-of, winners-point, length-spots}
 use Rattle.ept_grid.proofs.SpotLaws.{spot-share_cell}
 
--- the winners with that of a number between the rest
+-- the winners with the winner of a number between the rest
 stands-between : (ws : List Point) (at : ℕ) (p w : Point) → at < length ws → get_or ws at p ≡ w → ws ≡ take at ws ++ w ∷ drop (suc at) ws
 stands-between ws at p w there is =
     sym (take-append-drop at ws) ∙ ap (λ (rest : List Point). take at ws ++ rest) (drop-cons ws at p there ∙ ap (λ (v : Point). v ∷ drop (suc at) ws) is)
 
--- the point is better: the winner that the cell had gives its place to it
+-- the point is better, and takes the place of the winner that the cell had
 pub displaces : (rules : Rules) (depth : ℕ) (p w had has : Point) (cells : List Cell) (at next : ℕ) (d e : Cell) → at < length cells → w ≡ (get_or cells at d).point → had ≡ (get_or cells at e).point → has ≡ p → IsTrue (share_cell rules depth (get_or (winners cells) at p) p) → is_better_at rules depth p w ≡ true → HasContended rules depth p (winners cells) (winners (set cells at (record { point = has; next = next }))) had
 displaces rules depth p w had has cells at next d e there is was put one better =
     let ws = winners cells in
@@ -38,7 +38,7 @@ displaces rules depth p w had has cells at next d e there is was put one better 
       outcome = inl (subst (λ (v : Point). is_better_at rules depth p v ≡ true) same better, ap (λ (v : Point). winners (set cells at (record { point = v; next = next }))) put ∙ (winners-point cells at next p ∙ set_split ws at p within), refl);
     }
 
--- it is not
+-- the point is not better
 pub loses-there : (rules : Rules) (depth : ℕ) (p w : Point) (cells : List Cell) (at : ℕ) (d : Cell) → at < length cells → w ≡ (get_or cells at d).point → IsTrue (share_cell rules depth (get_or (winners cells) at p) p) → is_better_at rules depth p w ≡ false → HasContended rules depth p (winners cells) (winners cells) p
 loses-there rules depth p w cells at d there is one worse =
     let ws = winners cells in
@@ -58,7 +58,7 @@ spot-of rules depth [] k d within = absurd (omega arith)
 spot-of rules depth (w ∷ ws) zero d within = refl
 spot-of rules depth (w ∷ ws) (suc k) d within = spot-of rules depth ws k d (omega arith)
 
--- cells stand where they stood
+-- cells are where they were
 pub spots-point : (rules : Rules) (depth : ℕ) (cells : List Cell) (at next : ℕ) (p : Point) → get_or (spots_of rules depth cells) at nowhere ≡ spot rules depth p → at < length cells → spots_of rules depth (set cells at (record { point = p; next = next })) ≡ spots_of rules depth cells
 spots-point rules depth cells at next p meets there =
     let ws = winners cells in
@@ -71,7 +71,7 @@ pub false_unless : (b : Bool) → (b ≡ true → ⊥) → b ≡ false
 false_unless true not = absurd (not refl)
 false_unless false not = refl
 
--- where no winner stands in the place of a point, none lies in its cell
+-- if no winner is in the place of a point, none lies in its cell
 pub alone-cell : (rules : Rules) (depth : ℕ) (p : Point) (ws : List Point) → IsAlone (map (spot rules depth) ws) (spot rules depth p) → All (λ w. share_cell rules depth w p ≡ false) ws
 alone-cell rules depth p ws alone k d within =
     false_unless (share_cell rules depth (get_or ws k d) p) (λ shared. let same = spot-of rules depth ws k d within ∙ spot-share_cell rules depth (get_or ws k d) p shared in alone k (subst (λ n. k < n) (sym (length-map ws (spot rules depth))) within) (ap (λ (s : Spot). s.column) same) (ap (λ (s : Spot). s.level) same))
@@ -89,14 +89,14 @@ chained-added rules depth heads new_heads cells added s p below above chained is
     let by_heads = subst (λ (v : List ℕ). IsChained v (nexts_with (nexts_of cells) below above (length cells + 1)) (spots_of rules depth added)) (sym is_heads) by_spots in
     subst (λ (v : List ℕ). IsChained new_heads v (spots_of rules depth added)) (sym is_nexts) by_heads
 
--- ---- winners that share a cell are one
+-- ---- winners that share a cell are the same
 
 same-read : (ws : List Point) (k : ℕ) (a b : Point) → k < length ws → get_or ws k a ≡ get_or ws k b
 same-read [] k a b within = absurd (omega arith)
 same-read (w ∷ ws) zero a b within = refl
 same-read (w ∷ ws) (suc k) a b within = same-read ws k a b (omega arith)
 
--- winners that stand in one place are one
+-- winners that are in one place are the same
 pub one-spot : (rules : Rules) (depth : ℕ) (heads : List ℕ) (cells : List Cell) → IsChained heads (nexts_of cells) (spots_of rules depth cells) → (a b : Point) → IsMember a (winners cells) → IsMember b (winners cells) → spot rules depth a ≡ spot rules depth b → a ≡ b
 one-spot rules depth heads cells chained a b in_a in_b stands =
     let ws = winners cells in
@@ -113,7 +113,7 @@ pub apart-chained : (rules : Rules) (depth : ℕ) (heads : List ℕ) (cells : Li
 apart-chained rules depth heads cells chained a b in_a in_b shared =
     one-spot rules depth heads cells chained a b in_a in_b (spot-share_cell rules depth a b shared)
 
--- where no winner stands in a place, none has it
+-- if no winner is in a place, none has it
 pub none-stands : (rules : Rules) (depth : ℕ) (ws : List Point) (s : Spot) (w : Point) → IsAlone (map (spot rules depth) ws) s → IsMember w ws → spot rules depth w ≡ s → ⊥
 none-stands rules depth ws s w alone m stands =
     let i = contains-IsMember w ws m in

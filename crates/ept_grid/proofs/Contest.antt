@@ -41,7 +41,7 @@ own-cell rules depth p ws ws' losers s apart h = record {
 
 -- ---- a cell that has a winner
 
--- who is behind a winner that is displaced is behind the one that displaces it
+-- a point that is not better than a displaced winner is not better than the point that displaces it
 better_yet : (rules : Rules) (depth : ℕ) (p w q : Point) → is_better_at rules depth p w ≡ true → is_better_at rules depth q w ≡ false → is_better_at rules depth q p ≡ false
 better_yet rules depth p w q first behind =
     is_false (is_better_at rules depth q p) (λ e. not_both (is_better_at rules depth q w) (is_better-trans (rank_at rules depth q) (rank_at rules depth p) (rank_at rules depth w) e first) behind)
@@ -49,7 +49,7 @@ better_yet rules depth p w q first behind =
 no_worse : (rules : Rules) (depth : ℕ) (p w : Point) → is_better_at rules depth p w ≡ true → is_better_at rules depth w p ≡ false
 no_worse rules depth p w first = better_yet rules depth p w w first (is_better-self (rank_at rules depth w))
 
--- a member of a list, once one item stands in another's place
+-- a member of a list, once one item is in another's place
 replaced : (front back : List Point) (w p x : Point) → IsMember x (front ++ w ∷ back) → IsMember x (front ++ p ∷ back) ⊎ (w ≡ x)
 replaced front back w p x m =
     elim (IsMember-append x front (w ∷ back) m) [
@@ -60,7 +60,7 @@ replaced front back w p x m =
 newcomer : (front back : List Point) (p : Point) → IsMember p (front ++ p ∷ back)
 newcomer front back p = IsMember-right p front (p ∷ back) (inl refl)
 
--- the old losers are behind winners still
+-- the old losers still have no better rank than the winners of their cells
 still_behind : (rules : Rules) (depth : ℕ) (p : Point) (front back : List Point) (w : Point) (o : ℕ) (q : Point) → share_cell rules depth w p ≡ true → is_better_at rules depth p w ≡ true → IsBehind rules depth (front ++ w ∷ back) o q → IsBehind rules depth (front ++ p ∷ back) o q
 still_behind rules depth p front back w o q cell first b =
     elim (replaced front back w p b.winner b.wins) [

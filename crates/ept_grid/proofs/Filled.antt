@@ -203,7 +203,7 @@ none-open key rules heads cells capacity losers points mask f none =
               none_in (points_at losers k.0) q (none k.0 (omega (arith, k.1, f.eight)) (subst (λ (n : ℕ). opened mask n ≡ true) (f.settled.behind k.0 q k.2).in_octant opened_now)) k.2
         ]
 
--- where no point loses in an open octant, its list is empty
+-- if no point loses in an open octant, its list is empty
 pub open-gone : (key : VoxelKey) (rules : Rules) (heads : List ℕ) (cells : List Cell) (capacity : ℕ) (losers : List Leaving) (points : List Point) (mask : ℕ) → IsFilled key rules heads cells capacity losers points → IsAscending points → position (is_open_loser rules key.depth mask points) points ≡ None → (o : ℕ) → opened mask o ≡ true → points_at losers o ≡ []
 open-gone key rules heads cells capacity losers points mask f up none o opened_now = nothing (points_at losers o) nobody
   where
@@ -279,7 +279,7 @@ module _ (key : VoxelKey) (rules : Rules) (heads : List ℕ) (cells : List Cell)
     not_deep = n.deepest;
   }
 
--- ---- answers
+-- ---- results
 
 pub box-in-cube : (key : VoxelKey) (rules : Rules) (points : List Point) → IsKey key → IsCube rules.cube → key.depth ≤ rules.cube.depth → AllInBox rules.cube key points → AllInCube rules.cube points
 box-in-cube key rules points is_key is_cube low inside =
@@ -291,7 +291,7 @@ deep-told mask depth deepest e = (grind (arith, nat_tests), λ h. grind (arith, 
 pub shallow-told : (mask depth deepest : ℕ) → (not (mask == 0) && (depth == deepest)) ≡ false → depth ≡ deepest → mask ≡ 0
 shallow-told mask depth deepest e h = grind (arith, nat_tests)
 
--- an answer that is not `Some`
+-- a result that is not `Some`
 pub none-left : {X : Type 0} (r : Option X) (P : Type 0) (Q : X → Type 0) → r ≡ None → MatchOption r P Q → P
 none-left None P Q e h = h
 none-left (Some x) P Q e h = absurd (cc)

@@ -32,7 +32,7 @@ pub ascend-in_order : (ps : List Point) → HasDistinctIds (in_id_order ps) → 
 ascend-in_order ps once =
     IsAscending-IsRising (in_id_order ps) (IsRising-in_id_order ps (HasDistinctIds-IsPermutation (in_id_order ps) ps (IsPermutation-sym ps (in_id_order ps) (IsPermutation-in_id_order ps)) once))
 
--- points that ascend are, of all orders, the one by id
+-- points that ascend are in id order, whatever order they had
 pub ascending-order : (ps qs : List Point) → IsPermutation ps qs → IsAscending qs → qs ≡ in_id_order ps
 ascending-order ps qs all up =
     sym (in_id_order-IsRising qs (IsRising-IsAscending qs up)) ∙ sym (in_id_order-IsPermutation ps qs (HasDistinctIds-IsPermutation qs ps (IsPermutation-sym ps qs all) (HasDistinctIds-IsAscending qs up)) all)
@@ -107,7 +107,7 @@ pub count-node : (cells seen : List Cell) (losers : List Leaving) (n : ℕ) → 
 count-node cells seen losers n e is =
     e ∙ ap (λ (w : List Cell). length (contents (winners w) losers)) is ∙ sym (length-in_order (contents (winners cells) losers))
 
--- ---- whatever the ids, no point comes before one in front of it
+-- ---- whatever the ids, no point comes before one that is earlier in the list
 
 not_back : (p q : Point) → comes_before p q ≡ true → comes_before q p ≡ false
 not_back p q e =

@@ -1,4 +1,4 @@
--- A node stays one when it takes in a point.
+-- A node stays a node when it takes in a point.
 use Rattle.std.proofs.Common.{◌≡◌, ◌∙◌, ℕ, ◌*◌, ◌^◌, ◌<◌, ◌≤◌, ◌⊎◌, inl, inr, Bool, true, false, ◌&&◌, nat_lt, List, [], ◌∷◌, ◌++◌, length, length-append, refl, ap, sym, subst, arith}
 use Rattle.std.specs.Prelude.{◌==◌, if◌then◌else◌}
 use Rattle.std.proofs.lemmas.Bool.{eq-eqb}
@@ -117,7 +117,7 @@ node-taken key rules mask mask' p heads heads' cells cells' capacity capacity' l
   deepest = λ h. deepest (omega (arith, h)) ∙ node.deepest h;
 }
 
--- the table of heads, where there is room for a cell
+-- the table of heads, if there is room for a cell
 pub all-heads : (key : VoxelKey) (rules : Rules) (mask : ℕ) (heads : List ℕ) (cells : List Cell) (capacity : ℕ) (losers : List Leaving) → IsNode key rules heads cells capacity losers mask → 0 < capacity → length heads ≡ 2 ^ (2 * rules.cube.s)
 all-heads key rules mask heads cells capacity losers node h =
     elim node.table [ inl none ↦ absurd (omega (arith, none, node.some h)) | inr all ↦ all ]
@@ -175,7 +175,7 @@ node-none key rules heads cells capacity losers low e f g eight none = record {
     never n true = grind (arith, nat_tests)
     never n false = refl
 
--- nothing but the room is another
+-- only the room is different
 pub node-made : (key : VoxelKey) (rules : Rules) (mask : ℕ) (heads heads' : List ℕ) (cells cells' : List Cell) (capacity capacity' : ℕ) (losers losers' : List Leaving) → IsNode key rules heads cells capacity losers mask → (length heads' ≡ 0) ⊎ (length heads' ≡ 2 ^ (2 * rules.cube.s)) → (0 < capacity' → 0 < length heads') → cells' ≡ cells → length losers' ≡ length losers → ((o : ℕ) → points_at losers' o ≡ points_at losers o) → (IsChained heads (nexts_of cells) (spots_of rules key.depth cells) → IsChained heads' (nexts_of cells') (spots_of rules key.depth cells')) → IsNode key rules heads' cells' capacity' losers' mask
 node-made key rules mask heads heads' cells cells' capacity capacity' losers losers' node table some same len each chained = record {
   low = node.low;

@@ -89,7 +89,7 @@ joined-member (l ∷ losers) (suc o) zero r q m = inl m
 joined-member (l ∷ losers) (suc o) (suc k) r q m =
     elim (joined-member losers o k r q m) [ inl old ↦ inl old | inr new ↦ inr (new.0, ap suc new.1) ]
 
--- a point in front of two lists may stand between them
+-- a point before two lists may be between them
 pub between : {X : Type 0} (x : X) (xs ys zs : List X) → IsPermutation (x ∷ ys) zs → IsPermutation (x ∷ (xs ++ ys)) (xs ++ zs)
 between x xs ys zs h =
     IsPermutation-trans (x ∷ (xs ++ ys)) (xs ++ x ∷ ys) (xs ++ zs) (IsPermutation-sym (xs ++ x ∷ ys) (x ∷ (xs ++ ys)) (IsPermutation-middle xs x ys)) (IsPermutation-append_right xs (x ∷ ys) zs h)

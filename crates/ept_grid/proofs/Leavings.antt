@@ -12,7 +12,7 @@ all-same (l ∷ old) [] len each = absurd (omega arith)
 all-same (l ∷ old) (m ∷ new) len each =
     ap (λ (w : List Point). w ++ all_points new) (each 0) ∙ ap (λ (w : List Point). l.points ++ w) (all-same old new (omega arith) (λ o. each (suc o)))
 
--- no points at any octant are none
+-- if no points leave at any octant, none leave at all
 pub all-none : (out : List Leaving) → ((o : ℕ) → o < length out → points_at out o ≡ []) → all_points out ≡ []
 all-none [] each = refl
 all-none (l ∷ out) each =

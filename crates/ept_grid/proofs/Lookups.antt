@@ -1,4 +1,4 @@
--- Whether a point is a winner, by a look into its cell.
+-- Whether a point is a winner, by reading its cell.
 use Rattle.std.proofs.Common.{◌≡◌, ◌∙◌, inl, inr, ℕ, zero, suc, ◌+◌, ◌<◌, Bool, true, false, cond, ◌&&◌, not, List, [], ◌∷◌, length, get_or, refl, ap, sym, arith}
 use Rattle.std.specs.Prelude.{IsTrue, IsPermutation, Option, Some, None, nat_lt, position}
 use Rattle.std.specs.List.{All, list_any, position_or_len}
@@ -43,7 +43,7 @@ place_of_first f g [] same = refl
 place_of_first f g (p ∷ points) same =
     ap (λ (b : Bool). cond (not b) (1 + position_or_len f points) 0) (same p (inl refl)) ∙ ap (λ (n : ℕ). cond (not (g p)) (1 + n) 0) (place_of_first f g points (λ q m. same q (inr m)))
 
--- tests that agree on each point find the same first one
+-- tests that agree on each point find the same first point
 pub position-same : (f g : Point → Bool) (points : List Point) → ((p : Point) → IsMember p points → f p ≡ g p) → position f points ≡ position g points
 position-same f g points same =
     ap (λ (k : ℕ). cond (nat_lt k (length points)) (Some k) None) (place_of_first f g points same)
@@ -54,7 +54,7 @@ and-swap true false = refl
 and-swap false true = refl
 and-swap false false = refl
 
--- who is no winner loses
+-- a point that is no winner loses
 pub stranger-loses : (rules : Rules) (depth : ℕ) (ws : List Point) (losers : List Leaving) (given : List Point) → IsSettled rules depth ws losers → HasDistinctIds (contents ws losers) → IsPermutation (contents ws losers) given → (p : Point) → IsMember p (contents ws losers) → not (list_any (same_id p) ws) ≡ loses rules depth given p
 stranger-loses rules depth ws losers given settled once all p m =
     elim (IsMember-append p ws (all_points losers) m) [

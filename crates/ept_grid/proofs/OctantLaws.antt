@@ -6,7 +6,7 @@ use Rattle.ept_space.specs.OctreeCube.{OctreeCube, offset, cell_at, key_at, octa
 use Rattle.ept_space.proofs.Axis.{index-coarser}
 use Rattle.ept_space.proofs.Shifts.{ap3}
 
--- a cell's index, halved so often, is the index of the half box
+-- a cell's index, halved this number of times, is the index of the half box
 half : (cube : OctreeCube) (depth : ℕ) (place : Place) (axis shift index bit : ℕ) → 1 ≤ cube.s → depth + cube.s ≤ cube.e → shift ≡ cube.s - 1 → index ≡ offset cube place axis / 2 ^ (cube.e - depth - cube.s) → bit ≡ index / 2 ^ shift % 2 → bit ≡ offset cube place axis / box_side cube (depth + 1) % 2
 half cube depth place axis shift index bit span whole is_shift is_index is_bit =
     let n : ℕ = offset cube place axis in

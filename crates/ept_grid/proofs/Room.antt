@@ -38,7 +38,7 @@ lane-after rules depth mask mask' o more losers mid stay before after gone lane 
           ]
     ]
 
--- where there is room for a point and others, there is room for the others once it has arrived
+-- if there is room for a point and others, there is room for the others once it has arrived
 pub room-after : (old new : Node) (p : Point) (ws ws' : List Point) (losers losers' before after : List Leaving) → new.rules ≡ old.rules → new.key ≡ old.key → old.room.lanes ≡ map lane_of losers → new.room.lanes ≡ map lane_of losers' → old.room.cells ≤ new.room.cells + 1 → AreFew old.rules old.key.depth old.mask losers → HasTaken old.rules old.key.depth old.mask new.mask p ws ws' losers losers' before after
     → (later : List Point) → HasRoomFor old before (p ∷ later) → HasRoomFor new after later
 room-after old new p ws ws' losers losers' before after rules key lanes lanes' fewer few t later room = record {
@@ -55,7 +55,7 @@ room-after old new p ws ws' losers losers' before after rules key lanes lanes' f
       subst (λ (l : Lane). count_in new.rules new.key.depth o later ≤ lane_spare (opened new.mask o) l (leaving_at after o).room) (sym is) (omega (arith, all, counted, left, same));
 }
 
--- where there is room for a point, there is a place for it in its octant
+-- if there is room for a point, there is a place for it in its octant
 pub one-place : (rules : Rules) (depth mask : ℕ) (p : Point) (lanes : List Lane) (losers out : List Leaving) → lanes ≡ map lane_of losers → AreFew rules depth mask losers
     → count_in rules depth (octant rules depth p) (p ∷ []) ≤ lane_spare (opened mask (octant rules depth p)) (lane_at lanes (octant rules depth p)) (leaving_at out (octant rules depth p)).room
     → (opened mask (octant rules depth p) ≡ false → 0 < (leaving_at losers (octant rules depth p)).room) × (length (points_at losers (octant rules depth p)) + 1 ≤ (leaving_at out (octant rules depth p)).room)
@@ -74,7 +74,7 @@ one-place rules depth mask p lanes losers out are few enough =
 
 -- ---- room that is made
 
--- room in an octant's lists is room for so many points of it
+-- room in an octant's lists is room for the count of its points
 lane-made : (mask o count : ℕ) (losers out : List Leaving) → HasLaneRoom mask o count losers out → count ≤ lane_spare (opened mask o) (lane_of (leaving_at losers o)) (leaving_at out o).room
 lane-made mask o count losers out room =
     elim (either (opened mask o)) [
@@ -91,7 +91,7 @@ room-made (Ok v) node losers out points lanes cells each = record {
 }
 room-made (Err e) node losers out points lanes cells each = cells
 
--- what an answer says of each octant, said of equal counts
+-- what a result says of each octant, said of equal counts
 pub same-counts : {A B : Type 0} (r : Result A B) (mask : ℕ) (counts : ℕ → ℕ) (losers out : List Leaving) (numbers : List ℕ) → ((o : ℕ) → o < 8 → slice_index numbers o ≡ counts o) → OnOk r ((o : ℕ) → o < 8 → HasLaneRoom mask o (slice_index numbers o) losers out) → OnOk r ((o : ℕ) → o < 8 → HasLaneRoom mask o (counts o) losers out)
 same-counts (Ok v) mask counts losers out numbers same each = λ o h. subst (λ (n : ℕ). HasLaneRoom mask o n losers out) (same o h) (each o h)
 same-counts (Err e) mask counts losers out numbers same each = each

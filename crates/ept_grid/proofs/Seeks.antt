@@ -1,4 +1,4 @@
--- The search up a column: what was looked at.
+-- The search up a column: what was read.
 use Rattle.std.proofs.Common.{◌≡◌, ◌∙◌, ℕ, zero, suc, ◌+◌, ◌-◌, ◌<◌, ◌≤◌, Bool, true, false, cond, ◌&&◌, ◌==◌, List, [], ◌∷◌, length, get_or, refl, sym, subst, arith}
 use Rattle.std.specs.Prelude.{slice_index, nat_lt, count_by}
 use Rattle.std.proofs.lemmas.Bool.Decides.{nat_tests}
@@ -24,7 +24,7 @@ count-le {X} f g (x ∷ xs) more =
     step true is_f true is_g rest = omega arith
     step true is_f false is_g rest = absurd (false≢true (sym is_g ∙ more x is_f))
 
--- one that passes the second test alone counts one more
+-- an item that passes the second test alone counts one more
 pub count-grows : {X : Type 0} (f g : X → Bool) (xs : List X) (j : ℕ) (d : X) → ((x : X) → f x ≡ true → g x ≡ true) → j < length xs → f (get_or xs j d) ≡ false → g (get_or xs j d) ≡ true → count_by f xs + 1 ≤ count_by g xs
 count-grows f g [] j d more within fails passes = absurd (omega arith)
 count-grows {X} f g (x ∷ xs) zero d more within fails passes =
@@ -43,7 +43,7 @@ count-grows {X} f g (x ∷ xs) (suc j) d more within fails passes =
     step true is_f true is_g rest = omega arith
     step true is_f false is_g rest = absurd (false≢true (sym is_g ∙ more x is_f))
 
--- ---- what was looked at
+-- ---- what was read
 
 lower : (column low more : ℕ) → low ≤ more → (s : Spot) → ((s.column == column) && nat_lt s.level low) ≡ true → ((s.column == column) && nat_lt s.level more) ≡ true
 lower column low more le s h = both (s.column == column) h
@@ -68,7 +68,7 @@ is-not-there c l column low same above = grind (arith, nat_tests)
 is-same : (c column : ℕ) → c ≡ column → (c == column) ≡ true
 is-same c column same = grind (arith, nat_tests)
 
--- a look at a cell that is not below a level
+-- a cell is read that is not below a level
 pub looked-one : (spots : List Spot) (column low j : ℕ) → j < length spots → column_at spots j ≡ column → low ≤ level_at spots j → looked spots column low + 1 ≤ looked spots column (level_at spots j + 1)
 looked-one spots column low j within in_col not_below =
     count-grows (λ s. (s.column == column) && nat_lt s.level low) (λ s. (s.column == column) && nat_lt s.level (level_at spots j + 1)) spots j nowhere (lower column low (level_at spots j + 1) (omega arith)) within (is-not-there _ _ column low in_col not_below) (is-there _ _ column (level_at spots j + 1) in_col (omega arith))
@@ -83,7 +83,7 @@ looked-all spots column low =
 
 -- ---- the search
 
--- on the way to a level: a link, and how many looks it took to come there
+-- on the way to a level: a link, and how many cells were read to come there
 pub record IsSeeking (spots : List Spot) (column level link before now : ℕ) : Type 0 where
   pub low : ℕ
   pub not_above : low ≤ level
@@ -124,7 +124,7 @@ seek-end spots column level before now seeks =
     let all = looked-all spots column seeks.low in
     omega arith
 
--- where the next cell is above the level, or there is none, no cell of the level stands there
+-- if the next cell is above the level, or there is none, no cell of the level is there
 pub seek-alone : (spots : List Spot) (s : Spot) (link before now : ℕ) → IsSeeking spots s.column s.level link before now → (0 < link → s.level < level_at spots (link - 1)) → IsAlone spots s
 seek-alone spots s zero before now seeks higher k within in_col at =
     let low = seeks.leads.none refl k within in_col in

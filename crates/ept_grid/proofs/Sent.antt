@@ -20,7 +20,7 @@ use Rattle.ept_grid.proofs.Lanes.{in-range}
 nobody : (q : Point) (ps : List Point) → ps ≡ [] → IsMember q ps → ⊥
 nobody q ps none m = subst (λ (w : List Point). IsMember q w) none m
 
--- who stays among the losers was among them
+-- a point that stays among the losers was among them
 pub stayed : (rules : Rules) (depth mask mask' : ℕ) (mid stay before after : List Leaving) → HasSent rules depth mask mask' mid stay before after → (o : ℕ) (q : Point) → IsMember q (points_at stay o) → IsMember q (points_at mid o)
 stayed rules depth mask mask' mid stay before after sent o q m =
     let small : o < 8 = omega (arith, in-range stay o q m, sent.stay_eight) in
@@ -51,7 +51,7 @@ count_at test rules depth mask mask' o mid stay before after at =
       | inr isn't ↦ omega (arith, ap (λ (w : List Point). count_by test w) (at.shut isn't).0, ap (λ (w : List Point). count_by test w) (at.shut isn't).1)
     ]
 
--- lists that have as many points, octant by octant, have as many
+-- lists whose numbers of points are equal, octant by octant, have equal numbers of points
 count_all : (test : Point → Bool) (a b c d : List Leaving) → length b ≡ length a → length c ≡ length a → length d ≡ length a → ((o : ℕ) → o < length a → count_by test (points_at a o) + count_by test (points_at b o) ≡ count_by test (points_at c o) + count_by test (points_at d o)) → count_by test (all_points a) + count_by test (all_points b) ≡ count_by test (all_points c) + count_by test (all_points d)
 count_all test [] [] [] [] e f g each = refl
 count_all test [] (l ∷ b) c d e f g each = absurd (omega arith)

@@ -38,7 +38,7 @@ wins rules depth ws out s w m =
         let same : b.winner ≡ w = s.apart b.winner w b.wins m (same_cell-trans rules.cube depth (place b.winner) (place q) (place w) b.one_cell (beats-cell rules depth q w e)) in
         not_both (is_better_at rules depth q w) (beats-rank rules depth q w e) (subst (λ (x : Point). is_better_at rules depth q x ≡ false) same b.no_better)
 
--- each loser loses, where the ids are different
+-- each loser loses, if the ids are different
 pub falls : (rules : Rules) (depth : ℕ) (ws : List Point) (out : List Leaving) → IsSettled rules depth ws out → HasDistinctIds (contents ws out) → (o : ℕ) (q : Point) → IsMember q (points_at out o) → loses rules depth (contents ws out) q ≡ true
 falls rules depth ws out s once o q m =
     let b = s.behind o q m in

@@ -1,4 +1,4 @@
--- Points of one box that stand in one place lie in one cell.
+-- Points of one box that are in one place lie in one cell.
 use Rattle.std.proofs.Common.{◌≡◌, ◌∙◌, ℕ, ◌+◌, ◌-◌, ◌*◌, ◌/◌, ◌%◌, ◌^◌, ◌≤◌, true, sym, ap, arith}
 use Rattle.std.proofs.lemmas.Nat.{mod_below, pow_pos, div-add-mod', same_from_place}
 use Rattle.ept_point.specs.declared.point.Point.{Point}
@@ -27,7 +27,7 @@ column-parts cube x y u v same =
     let parts = same_from_place (y % 2 ^ cube.s) (x % 2 ^ cube.s) (v % 2 ^ cube.s) (u % 2 ^ cube.s) (2 ^ cube.s) (mod_below x (2 ^ cube.s) positive) (mod_below u (2 ^ cube.s) positive) swapped in
     (parts.1, parts.0)
 
--- a cell's index tells the index of its box
+-- a cell's index determines the index of its box
 box-of-cell : (cube : OctreeCube) (depth n : ℕ) → depth + cube.s ≤ cube.e → n / 2 ^ (cube.e - depth - cube.s) / 2 ^ cube.s ≡ n / 2 ^ (cube.e - depth)
 box-of-cell cube depth n whole =
     let steps : cube.e - depth - (cube.e - depth - cube.s) ≡ cube.s = omega arith in
@@ -48,7 +48,7 @@ has-key cube key at whole inside =
       z = box-of-cell cube key.depth (offset cube at 2) whole ∙ ap (λ (k : VoxelKey). k.z) is;
     }
 
--- points of a box that stand in one place lie in one cell
+-- points of a box that are in one place lie in one cell
 pub share_cell-spot : (rules : Rules) (key : VoxelKey) (p q : Point) → key.depth + rules.cube.s ≤ rules.cube.e → InBox rules.cube key (place p) → InBox rules.cube key (place q) → spot rules key.depth p ≡ spot rules key.depth q → share_cell rules key.depth p q ≡ true
 share_cell-spot rules key p q whole in_p in_q same =
     let has_p = has-key rules.cube key (place p) whole in_p in
@@ -60,7 +60,7 @@ share_cell-spot rules key p q whole in_p in_q same =
       z = ap (λ (s : Spot). s.level) same;
     })
 
--- and points of one cell stand in one place
+-- and points of one cell are in one place
 pub spot-share_cell : (rules : Rules) (depth : ℕ) (p q : Point) → share_cell rules depth p q ≡ true → spot rules depth p ≡ spot rules depth q
 spot-share_cell rules depth p q shared =
     let same = IsSameCell-from rules.cube depth (place p) (place q) shared in

@@ -67,7 +67,7 @@ taken-sends_on old new p ws ws' losers losers' before after low none t o h = rec
     empty [] e q m = m
     empty (x ∷ ps) e q m = omega (arith, e)
 
--- ---- the whole node, where the ids are different
+-- ---- the whole node, if the ids are different
 
 -- no more points stay than there were
 count_fewer : (test : Point → Bool) (a b : List Leaving) → length a ≡ length b → ((o : ℕ) → o < length a → count_by test (points_at a o) ≤ count_by test (points_at b o)) → count_by test (all_points a) ≤ count_by test (all_points b)

@@ -32,7 +32,7 @@ share-lies rules depth cell p q in_p in_q =
     let b = three _ _ _ _ _ _ in_q in
     same_cell-from rules.cube depth (place p) (place q) (record { x = a.0 ∙ sym b.0; y = a.1 ∙ sym b.1; z = a.2 ∙ sym b.2 })
 
--- what shares the cell of a point lies where it does
+-- a point that shares the cell of a point lies in that cell
 pub lies-share : (rules : Rules) (depth : ℕ) (cell : List ℕ) (w q : Point) → share_cell rules depth w q ≡ true → lies_in rules depth cell q ≡ true → lies_in rules depth cell w ≡ true
 lies-share rules depth cell w q shared in_q =
     let same = IsSameCell-from rules.cube depth (place w) (place q) shared in

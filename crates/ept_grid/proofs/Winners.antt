@@ -37,7 +37,7 @@ next-at [] k d within = absurd (omega arith)
 next-at (c ∷ cells) zero d within = refl
 next-at (c ∷ cells) (suc k) d within = next-at cells k d (omega arith)
 
--- where a cell stands
+-- where a cell is
 pub spot-at : (rules : Rules) (depth : ℕ) (cells : List Cell) (k : ℕ) (d : Cell) → k < length cells → get_or (spots_of rules depth cells) k nowhere ≡ spot rules depth (get_or cells k d).point
 spot-at rules depth [] k d within = absurd (omega arith)
 spot-at rules depth (c ∷ cells) zero d within = refl
@@ -46,7 +46,7 @@ spot-at rules depth (c ∷ cells) (suc k) d within = spot-at rules depth cells k
 pub length-spots : (rules : Rules) (depth : ℕ) (cells : List Cell) → length (spots_of rules depth cells) ≡ length cells
 length-spots rules depth cells = length-map (winners cells) (spot rules depth) ∙ length-map cells (λ c. c.point)
 
--- ---- a look at the cell that a link names
+-- ---- the cell that a link names, as it is read
 
 equal-true : (m n : ℕ) → nat_eq m n ≡ true → m ≡ n
 equal-true m n same = grind (arith, nat_tests)
@@ -112,7 +112,7 @@ nexts-behind nexts zero above link some = absurd (omega arith)
 nexts-behind nexts (suc j) above link some =
     let same : suc j - 1 ≡ j = omega arith in ap (λ k. set (nexts ++ above ∷ []) k link) same
 
--- ---- the cell that a look shows
+-- ---- the cell as it was read
 
 pub shown-next : (cells : List Cell) (link : ℕ) (cell : Cell) → 0 < link → link ≤ length cells → cell ≡ get_or cells (link - 1) cell → slice_index (nexts_of cells) (link - 1) ≡ cell.next
 shown-next cells link cell some there is =

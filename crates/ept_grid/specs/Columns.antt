@@ -1,6 +1,6 @@
 -- The cells of a node by columns: those with the same indices on the axes x and y, from the lowest up.
 --
--- Cells have numbers, from 0. A link names the cell of a number by the number and one, and 0 names none.
+-- Cells have numbers, from 0. A link names a cell by its number plus one, and the link 0 names no cell.
 use Rattle.std.specs.List.{All}
 use Rattle.std.specs.Prelude.{IsTrue, ℕ, zero, suc, ◌≡◌, ◌≢◌, ◌==◌, ◌&&◌, nat_lt, count_by, ◌+◌, ◌-◌, ◌*◌, ◌%◌, ◌^◌, ◌<◌, ◌≤◌, List, [], ◌∷◌, ◌++◌, length, map, slice_index, slice_index_or, slice_set}
 use Rattle.ept_point.specs.declared.point.Point.{Point}
@@ -17,14 +17,14 @@ use Rattle.ept_grid.specs.Settling.{winners}
 unfoldable pub column_of : OctreeCube → ℕ → ℕ → ℕ
 column_of cube x y = x % 2 ^ cube.s + y % 2 ^ cube.s * 2 ^ cube.s
 
--- where the cell of a point stands
+-- where the cell of a point is
 abbrev pub spot : Rules → ℕ → Point → Spot
 spot rules depth p = record {
   column = column_of rules.cube (cell_index rules.cube depth (place p) 0) (cell_index rules.cube depth (place p) 1);
   level = cell_index rules.cube depth (place p) 2;
 }
 
--- where each of some cells stands, and the links of each to the next
+-- where each of some cells is, and the links of each to the next
 abbrev pub spots_of : Rules → ℕ → List Cell → List Spot
 spots_of rules depth cells = map (spot rules depth) (winners cells)
 
@@ -41,7 +41,7 @@ column_at spots k = (slice_index_or spots k nowhere).column
 abbrev pub level_at : List Spot → ℕ → ℕ
 level_at spots k = (slice_index_or spots k nowhere).level
 
--- a link names the first cell of a column that is not below a level, or none where there is none
+-- a link names the first cell of a column that is not below a level, or is 0 if there is none
 pub record LeadsTo (spots : List Spot) (column low link : ℕ) : Type 0 where
   pub none : link ≡ 0 → (k : ℕ) → k < length spots → column_at spots k ≡ column → level_at spots k < low
   pub there : link ≤ length spots
@@ -61,7 +61,7 @@ abbrev pub after : List Spot → ℕ → ℕ
 after spots zero = 0
 after spots (suc k) = level_at spots k + 1
 
--- on the way up a column to a level: the first link names the last cell passed, if any, and the second the next one
+-- On the way up a column to a level. The first link names the last cell passed, if any, and the second the next cell.
 pub record IsOnWay (spots : List Spot) (column level below above : ℕ) : Type 0 where
   pub there : below ≤ length spots
   pub of_column : 0 < below → column_at spots (below - 1) ≡ column
@@ -82,8 +82,8 @@ pub record NamesAt (spots : List Spot) (level link : ℕ) : Type 0 where
   pub some : 0 < link
   pub at : level_at spots (link - 1) ≡ level
 
--- the heads and the links with one more cell, which a link names: it comes behind the cell that `below` names, or first
--- in its column where that is none, and before the one that `above` names
+-- The heads and the links with one more cell, which a link names. The cell comes after the cell that `below` names, or
+-- first in its column if that is none. It comes before the cell that `above` names.
 abbrev pub heads_with : List ℕ → ℕ → ℕ → ℕ → List ℕ
 heads_with heads column zero link = slice_set heads column link
 heads_with heads column (suc j) link = heads
@@ -92,12 +92,12 @@ abbrev pub nexts_with : List ℕ → ℕ → ℕ → ℕ → List ℕ
 nexts_with nexts zero above link = nexts ++ above ∷ []
 nexts_with nexts (suc j) above link = slice_set (nexts ++ above ∷ []) j link
 
--- no cell stands in this place
+-- no cell is in this place
 abbrev pub IsAlone : List Spot → Spot → Type 0
 IsAlone spots s =
     (k : ℕ) → k < length spots → column_at spots k ≡ s.column → level_at spots k ≢ s.level
 
--- a winner stands in this place
+-- a winner is in this place
 pub record StandsAt (rules : Rules) (depth : ℕ) (ws : List Point) (s : Spot) (p : Point) : Type 0 where
   pub one_of_them : IsMember p ws
   pub stands : spot rules depth p ≡ s
@@ -109,7 +109,7 @@ in_column spots column = count_by (λ s. s.column == column) spots
 abbrev pub looked : List Spot → ℕ → ℕ → ℕ
 looked spots column low = count_by (λ s. (s.column == column) && nat_lt s.level low) spots
 
--- a winner of the point's id would stand in its place
+-- a winner of the point's id would be in its place
 abbrev pub StandInPlace : Rules → ℕ → List Point → Point → Type 0
 StandInPlace rules depth ws p =
     All (λ w. IsTrue (same_id p w) → spot rules depth w ≡ spot rules depth p) ws

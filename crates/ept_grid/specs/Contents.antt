@@ -26,16 +26,17 @@ pub record IsBehind (rules : Rules) (depth : ℕ) (ws : List Point) (o : ℕ) (q
   pub one_cell : IsTrue (share_cell rules depth winner q)
   pub no_better : is_better_at rules depth q winner ≡ false
 
--- each cell has one winner, and each loser stands in the list of its octant, behind a winner
+-- each cell has one winner, and each loser is in the list of its octant, with no better rank than the winner of its
+-- cell
 pub record IsSettled (rules : Rules) (depth : ℕ) (ws : List Point) (losers : List Leaving) : Type 0 where
   pub apart : AreApart rules depth ws
   pub behind : (o : ℕ) (q : Point) → IsMember q (points_at losers o) → IsBehind rules depth ws o q
 
--- above the greatest depth, so many losers open an octant
+-- this number of losers opens an octant above the greatest depth
 abbrev pub opens_with : Rules → ℕ → ℕ → Bool
 opens_with rules depth count = nat_lt depth rules.cube.depth && nat_lt rules.threshold count
 
--- a closed octant has no more losers than it may have, and an open one has none
+-- a closed octant has no more losers than it may have, and an open octant has none
 pub record AreFew (rules : Rules) (depth mask : ℕ) (losers : List Leaving) : Type 0 where
   pub shut : (o : ℕ) → o < 8 → opened mask o ≡ false → opens_with rules depth (length (points_at losers o)) ≡ false
   pub gone : (o : ℕ) → o < 8 → opened mask o ≡ true → points_at losers o ≡ []
@@ -46,8 +47,8 @@ joined [] o q = []
 joined (l ∷ losers) zero q = record { points = l.points ++ q ∷ []; room = l.room - 1 } ∷ losers
 joined (l ∷ losers) (suc o) q = l ∷ joined losers o q
 
--- The losers `mid` of one octant leave where it is open or they open it, and stay otherwise: `stay` are those
--- that stay, and `before` and `after` what leaves the node, before and afterwards.
+-- The losers `mid` of one octant leave if it is open or they open it, and stay otherwise. `stay` are the losers that
+-- stay. `before` and `after` are what leaves the node, before and afterwards.
 pub record HasSentAt (rules : Rules) (depth mask mask' o : ℕ) (mid stay before after : Leaving) : Type 0 where
   pub opens : opened mask' o ≡ (opened mask o || opens_with rules depth (length mid.points))
   pub shut : opened mask' o ≡ false → (stay.points ≡ mid.points) × (after.points ≡ before.points)
@@ -67,7 +68,7 @@ pub record HasSent (rules : Rules) (depth mask mask' : ℕ) (mid stay before aft
   pub before_eight : length before ≡ 8
   pub after_eight : length after ≡ 8
 
--- a list of losers with so many more at most
+-- a list of losers that has grown by at most this number
 pub record IsLaneAfter (more : ℕ) (before after : Leaving) : Type 0 where
   pub grows : length after.points ≤ length before.points + more
   pub room : before.room ≤ after.room + more
@@ -76,7 +77,7 @@ pub record IsLaneAfter (more : ℕ) (before after : Leaving) : Type 0 where
 abbrev pub lane_of : Leaving → Lane
 lane_of l = record { count = length l.points; room = l.room }
 
--- A point is among the winners or the losers of a node, one of which may be displaced by it, and then losers leave.
+-- A point is among the winners or the losers of a node. It may displace a winner, and then losers leave.
 pub record HasTaken (rules : Rules) (depth mask mask' : ℕ) (p : Point) (ws ws' : List Point) (losers losers' before after : List Leaving) : Type 0 where
   -- the losers with the point that loses, if one does, before any leaves
   pub mid : List Leaving
@@ -85,12 +86,13 @@ pub record HasTaken (rules : Rules) (depth mask mask' : ℕ) (p : Point) (ws ws'
   pub lanes : (o : ℕ) → o < 8 → IsLaneAfter (if octant rules depth p == o then 1 else 0) (leaving_at losers o) (leaving_at mid o)
   pub sent : HasSent rules depth mask mask' mid losers' before after
 
--- there is room for so many points of an octant: among its losers where it is closed, and, with these, among what leaves for it
+-- There is room for this number of points of an octant. If it is closed, there is room among its losers. With these,
+-- there is room among what leaves for it.
 pub record HasLaneRoom (mask o count : ℕ) (losers out : List Leaving) : Type 0 where
   pub stay : opened mask o ≡ false → count ≤ (leaving_at losers o).room
   pub leave : length (points_at losers o) + count ≤ (leaving_at out o).room
 
--- for how many more cells a pool has room: a link names the cells below 2 ^ 32 - 1
+-- for how many more cells a pool has room: links can name the cells below 2 ^ 32 - 1
 abbrev pub cell_room : ℕ → ℕ → ℕ
 cell_room capacity count = min capacity 4294967295 - count
 
@@ -107,7 +109,7 @@ pub record IsNode (key : VoxelKey) (rules : Rules) (heads : List ℕ) (cells : L
   pub few : AreFew rules key.depth mask losers
   pub deepest : key.depth ≡ rules.cube.depth → mask ≡ 0
 
--- the cells and losers of these points, where no octant is open
+-- the cells and losers of these points, if no octant is open
 pub record IsFilled (key : VoxelKey) (rules : Rules) (heads : List ℕ) (cells : List Cell) (capacity : ℕ) (losers : List Leaving) (points : List Point) : Type 0 where
   pub table : (length heads ≡ 0) ⊎ (length heads ≡ 2 ^ (2 * rules.cube.s))
   pub some : 0 < capacity → 0 < length heads

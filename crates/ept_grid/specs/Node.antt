@@ -17,11 +17,11 @@ pub record Lane : Type 0 where
 abbrev pub no_lane : Lane
 no_lane = record { count = 0; room = 0 }
 
--- that of an octant
+-- the losers of one octant
 abbrev pub lane_at : List Lane → ℕ → Lane
 lane_at lanes o = slice_index_or lanes o no_lane
 
--- room in a node: for so many winners more, and for losers by octant
+-- room in a node: for how many more winners, and for losers by octant
 pub record Room : Type 0 where
   pub cells : ℕ
   pub lanes : List Lane
@@ -30,8 +30,8 @@ pub record Room : Type 0 where
 abbrev pub no_room : Room
 no_room = record { cells = 0; lanes = [] }
 
--- the key of a node, the rules of its sampling, its points in id order, its open octants as the bits of a number,
--- and its room for more points
+-- The key of a node, the rules of its sampling, and its points in id order. Its open octants are the bits of a number,
+-- and it has room for more points.
 pub record Node : Type 0 where
   pub key : VoxelKey
   pub rules : Rules
@@ -54,7 +54,7 @@ is_open_in node o = opened node.mask o
 abbrev pub given_with : Node → Point → List Point
 given_with node p = in_id_order (p ∷ node.points)
 
--- no point comes before one in front of it, by its id
+-- no point comes before one that is earlier in the list, by its id
 unfoldable pub IsInIdOrder : List Point → Type 0
 IsInIdOrder [] = Unit {0}
 IsInIdOrder (p ∷ points) = All (λ q. comes_before q p ≡ false) points × IsInIdOrder points
@@ -65,14 +65,14 @@ pub record SendsOn (old new : Node) (o : ℕ) (before after : List Point) : Type
   -- the list grows at its end, by points of the octant
   pub grows : after ≡ before ++ added
   pub in_octant : All (λ q. octant old.rules old.key.depth q ≡ o) added
-  -- an open octant stays open, and a point leaves for open ones alone
+  -- an open octant stays open, and a point leaves for open octants alone
   pub stays_open : IsTrue (is_open_in old o) → IsTrue (is_open_in new o)
   pub if_open : 0 < length added → IsTrue (is_open_in new o)
-  -- a point leaves for an octant that opens, and none opens at the greatest depth
+  -- a point leaves for an octant that opens, and no octant opens at the greatest depth
   pub if_opens : is_open_in old o ≡ false → IsTrue (is_open_in new o) → 0 < length added
   pub above : IsTrue (is_open_in new o) → old.key.depth < old.rules.cube.depth
 
--- What an arrival does where all ids are different: the node keeps what stays, and the rest leaves, in id order.
+-- What an arrival does if all ids are different: the node keeps what stays, and the rest leaves, in id order.
 pub record TakesIn (old new : Node) (p : Point) (before after : List Leaving) : Type 0 where
   pub points : new.points ≡ kept old.rules old.key.depth (is_open_in old) (given_with old p)
   pub opens : (o : ℕ) → o < 8 → is_open_in new o ≡ is_open old.rules old.key.depth (is_open_in old) (given_with old p) o
@@ -82,14 +82,14 @@ pub record TakesIn (old new : Node) (p : Point) (before after : List Leaving) : 
 abbrev pub count_in : Rules → ℕ → ℕ → List Point → ℕ
 count_in rules depth o points = count_by (λ p. octant rules depth p == o) points
 
--- How many points of an octant can arrive, where there is room for so many to leave: those of an open one leave; of
--- another one each may stay, and leave with all losers once it opens.
+-- How many points of an octant can arrive if there is room for this number to leave. The points of an open octant
+-- leave. In a closed one each may stay, and leave with all losers once the octant opens.
 abbrev pub lane_spare : Bool → Lane → ℕ → ℕ
 lane_spare true lane room = room
 lane_spare false lane room = min lane.room (room - lane.count)
 
--- There is room for these points to arrive, one after another: for each a cell, and for those of each octant among its
--- losers and among what leaves for it.
+-- There is room for these points to arrive, one after another. Each has room for a cell. The points of each octant have
+-- room among its losers and among what leaves for it.
 pub record HasRoomFor (node : Node) (out : List Leaving) (points : List Point) : Type 0 where
   pub cells : length points ≤ node.room.cells
   pub places : (o : ℕ) → o < 8 → count_in node.rules node.key.depth o points ≤ lane_spare (is_open_in node o) (lane_at node.room.lanes o) (leaving_at out o).room

@@ -11,7 +11,7 @@ pub record Leaving : Type 0 where
 abbrev pub no_leaving : Leaving
 no_leaving = record { points = []; room = 0 }
 
--- those of an octant
+-- the points and the room of an octant
 abbrev pub leaving_at : List Leaving → ℕ → Leaving
 leaving_at out o = slice_index_or out o no_leaving
 

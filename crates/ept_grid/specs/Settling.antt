@@ -24,7 +24,7 @@ share_cell rules depth p q = same_cell rules.cube depth (place p) (place q)
 abbrev pub is_better_at : Rules → ℕ → Point → Point → Bool
 is_better_at rules depth p q = is_better (rank_at rules depth p) (rank_at rules depth q)
 
--- winners that share a cell are one
+-- winners that share a cell are the same
 abbrev pub AreApart : Rules → ℕ → List Point → Type 0
 AreApart rules depth ws =
     (a b : Point) → IsMember a ws → IsMember b ws → IsTrue (share_cell rules depth a b) → a ≡ b

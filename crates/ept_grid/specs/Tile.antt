@@ -24,13 +24,13 @@ is_open_loser rules depth mask points p = loses rules depth points p && opened m
 abbrev pub is_overfull : Rules → ℕ → ℕ → List Point → ℕ → Bool
 is_overfull rules depth mask points o = not (opened mask o) && overflows rules depth points o
 
--- this octant is the first such
+-- this is the first octant like that
 pub record IsFirstOverfull (rules : Rules) (depth mask : ℕ) (points : List Point) (o : ℕ) : Type 0 where
   pub one_of_eight : o < 8
   pub overfull : is_overfull rules depth mask points o ≡ true
   pub before : (k : ℕ) → k < o → is_overfull rules depth mask points k ≡ false
 
--- no octant is
+-- no octant is like that
 abbrev pub NoneIsOverfull : Rules → ℕ → ℕ → List Point → Type 0
 NoneIsOverfull rules depth mask points = (o : ℕ) → o < 8 → is_overfull rules depth mask points o ≡ false
 
@@ -41,7 +41,7 @@ pub record IsTile (key : VoxelKey) (rules : Rules) (mask : ℕ) (points : List P
   pub none_overfull : NoneIsOverfull rules key.depth mask points
   pub not_deep : key.depth ≡ rules.cube.depth → mask ≡ 0
 
--- the first cause why they are not; want of memory is none
+-- the first cause why they are not; running out of memory is no such cause
 abbrev pub IsTileFault : VoxelKey → Rules → ℕ → List Point → GridError → Type 0
 IsTileFault key rules mask points (Outside at) = IsFirstOutside rules.cube key points at
 IsTileFault key rules mask points (OpenLoser at) =

@@ -19,8 +19,8 @@ pub(crate) fn count(cells: &[Cell], losers: &Outgoing) -> usize
     cells.len() + losers.total()
 }
 
-/// Appends the points of a node, in id order, in the list's own room as far as that goes. After `Memory` the list is as it
-/// was.
+/// Appends the points of a node, in id order, in the list's own room as far as that is enough. After `Memory` the list
+/// is as it was.
 pub(crate) fn append_by_id(
     cells: &[Cell],
     losers: &Outgoing,
@@ -34,12 +34,12 @@ pub(crate) fn append_by_id(
     if ids_ascend(&out.as_slice()[before..]) {
         return Ok(());
     }
-    // An id stands twice, so that the sort left the order of its points open.
+    // Two points have the same id, so the sort left the order of its points open.
     out.truncate(before);
     append_one_by_one(cells, losers, out)
 }
 
-// Appends the points sorted by their ids. What a sort moves about is an id and a reference, a third of a point.
+// Appends the points sorted by their ids. The sort moves an id and a reference, a third of a point.
 fn append_sorted(cells: &[Cell], losers: &Outgoing, out: &mut Vec<Point>) -> Result<(), Memory>
     ensures before { OnOk result (take (length out.old.items) out.new.items ≡ out.old.items) }
     ensures moved { OnOk result (IsPermutation (contents (winners cells.now) losers.now) (drop (length out.old.items) out.new.items)) }

@@ -30,13 +30,13 @@ use std::sync::ledger::Ledger;
 
 /// A node of the octree: the points that it keeps, and which of its octants are open.
 ///
-/// Of its points, the best of each cell wins, and the others lose. An octant opens once it has more
-/// losers than the threshold. From then on its losers leave for the octant's child.
+/// The best of its points in each cell wins, and the others lose. An octant opens once it has more losers than the
+/// threshold. From then on its losers leave for the octant's child.
 #[derive(Debug, Drop)]
 pub struct Grid {
     key: Key,
     rules: Rules,
-    // For each column of cells, which cell is its lowest one: the number of it and one, or 0 for none.
+    // For each column of cells the number of its lowest cell plus one, or 0 if it has none.
     heads: Vec<u32>,
     // The cells that have a point.
     cells: Vec<Cell>,
@@ -85,8 +85,8 @@ impl Grid {
         }
     }
 
-    /// The node of a key with these points and open octants, or the first cause why they are no node.
-    /// The ids ascend. It is made in these lists, whatever they had.
+    /// The node of a key with these points and open octants, or the first cause why they are no node. The ids ascend.
+    /// It is made in these lists, whatever they had.
     pub fn from_tile(
         lists: Lists,
         key: Key,
@@ -111,12 +111,12 @@ impl Grid {
         })
     }
 
-    /// Takes in a point, and gives out the points that leave. It takes no memory.
+    /// Takes in a point, and passes the points that leave to `out`. It takes no memory.
     pub fn arrive(&mut self, point: Point, out: &mut Outgoing)
         requires room { HasRoomFor self.old out.old (point ∷ []) }
         requires inside { InBox self.old.rules.cube self.old.key (place point) }
 
-        // Whatever the ids, no point is lost, and each that leaves lies in its octant, which is open.
+        // Whatever the ids, no point is lost, and each point that leaves lies in its octant, which is open.
         ensures key { self.new.key ≡ self.old.key }
         ensures rules { self.new.rules ≡ self.old.rules }
         ensures together { (test : Point → Bool) →
@@ -127,7 +127,7 @@ impl Grid {
         ensures room { (later : List Point) →
             HasRoomFor self.old out.old (point ∷ later) → HasRoomFor self.new out.new later }
 
-        // Where the ids are all different, the node keeps and sends what the sampling says.
+        // If the ids are all different, the node keeps and sends what the sampling says.
         ensures takes_in { HasDistinctIds (point ∷ self.old.points) →
             TakesIn self.old self.new point out.old out.new }
     {
@@ -144,7 +144,7 @@ impl Grid {
         );
     }
 
-    /// The open octants: bit o is set where octant o is open.
+    /// The open octants: bit o is set if octant o is open.
     pub fn open_mask(&self) -> u8
         ensures mask { result ≡ self.now.mask }
     {
@@ -179,8 +179,8 @@ impl Grid {
         is_inside(&self.key, &self.rules, point)
     }
 
-    /// Makes room in the node and in what leaves it for these points to arrive: for those of each octant
-    /// where they may come to stand. The points of both stay, whatever the answer.
+    /// Makes room in the node and in what leaves it for these points to arrive. The points of each octant get room
+    /// wherever they may be put. The points of both stay, whatever the result.
     pub fn reserve(&mut self, arrivals: &[Point], out: &mut Outgoing) -> Result<(), Memory>
         requires inside { AllInBox self.old.rules.cube self.old.key arrivals.now }
         ensures room { OnOk result (HasRoomFor self.new out.new arrivals.now) }
@@ -211,9 +211,8 @@ impl Grid {
         append_by_id(self.cells.as_slice(), &self.losers, out)
     }
 
-    /// The best of the node's points in a cell of its box, which is given by its index on each axis,
-    /// counted from the cube's corner. A step is one cell with a point that is looked at. It takes no
-    /// memory.
+    /// The best of the node's points in a cell of its box. The cell is given by its index on each axis, counted from
+    /// the cube's corner. A step is one cell with a point that is read. It takes no memory.
     pub fn winner<L: Ledger>(&self, cell: [u32; 3], steps: &mut Steps<L>) -> Option<Point>
         requires { IsCellOf self.now.rules self.now.key cell }
         ensures best { MatchOption result
@@ -232,7 +231,7 @@ impl Grid {
         )
     }
 
-    /// Tells a proof what each node keeps.
+    /// Exposes what each node keeps to the caller's proof. Does nothing at run time.
     pub fn known(&self)
         ensures low { self.now.key.depth ≤ self.now.rules.cube.depth }
         ensures inside { All (λ q. InBox self.now.rules.cube self.now.key (place q)) self.now.points }

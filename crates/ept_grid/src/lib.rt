@@ -1,5 +1,5 @@
-//! One node of the octree. It takes points one by one, keeps those that stay, and gives out those that
-//! leave, by octant.
+//! One node of the octree. It takes points one by one, keeps those that stay, and passes on those that leave, by
+//! octant.
 #![tactic(auto)]
 
 mod by_id;

@@ -4,7 +4,7 @@ use crate::outgoing::Outgoing;
 use crate::pool::Cell;
 use std::alloc::Global;
 
-/// The lists that a node is made in from its points. It asks for memory only where their room does not do.
+/// The lists that a node is made in from its points. It allocates only if their room is not enough.
 #[derive(Debug, Drop)]
 pub struct Lists {
     pub(crate) heads: Vec<u32>,

@@ -1,4 +1,4 @@
-//! Whether a point of a node is one of its winners, by a look into its cell.
+//! Whether a point of a node is one of its winners, by reading its cell.
 
 ghost use Rattle.std.specs.Prelude.{◌≡◌, ◌<◌, ◌≤◌, ◌*◌, ◌^◌, not, MatchOption, length};
 ghost use Rattle.std.specs.List.{list_any};
@@ -14,7 +14,7 @@ use crate::walk::{gap_at, is_at};
 use ept_point::Point;
 use ept_space::Rules;
 
-/// Whether no winner has the id of the point, where a winner of its id would stand in its place.
+/// Whether no winner has the id of the point. A winner of its id has to be in the point's place.
 pub(crate) fn is_no_winner(
     rules: &Rules,
     depth: u8,
@@ -36,7 +36,7 @@ pub(crate) fn is_no_winner(
     }
 }
 
-// The winner that stands where the cell of the point does.
+// The winner in the place of the point's cell.
 fn winner_at(
     rules: &Rules,
     depth: u8,

@@ -13,8 +13,8 @@ use crate::outgoing::Outgoing;
 use ept_point::Point;
 use ept_space::Rules;
 
-/// Sends on a point that loses, where its octant is open, and keeps it among the losers otherwise. An
-/// octant that then has too many losers opens, and sends them on in id order. Answers the open octants.
+/// Sends on a point that loses if its octant is open, and keeps it among the losers otherwise. An octant that then has
+/// too many losers opens, and sends them on in id order. Returns the open octants.
 pub(crate) fn lose(
     rules: &Rules,
     depth: u8,
@@ -50,7 +50,7 @@ pub(crate) fn lose(
     with_open(mask, octant)
 }
 
-/// Whether so many losers open an octant of a node of that depth.
+/// Whether `count` losers open an octant of a node of that depth.
 pub(crate) fn is_too_many(rules: &Rules, depth: u8, count: usize) -> bool
     ensures { result ≡ opens_with rules.now depth count }
 {

@@ -27,8 +27,8 @@ pub(crate) fn emptied(
     make_heads(rules, heads)
 }
 
-/// Makes the heads of the columns where there are none yet, and room for so many more cells. The cells
-/// stay, whatever the answer.
+/// Makes the heads of the columns if there are none yet, and room for `more` cells. The cells stay, whatever the
+/// result.
 pub(crate) fn make_cells(
     rules: &Rules,
     heads: &mut Vec<u32>,
@@ -52,8 +52,9 @@ pub(crate) fn make_cells(
     make_room_for(cells, more)
 }
 
-/// Makes room in a list for so many more items, which stay as they are, whatever the answer. A list without that room
-/// gets just this much, and an eighth of its length at least: it is moved rarely, and has little room that it does not use.
+/// Makes room in a list for `more` items. The items that are there stay, whatever the result. A list without that room
+/// grows by `more`, or by an eighth of its length if that is greater. So it is moved rarely, and has little unused
+/// room.
 pub(crate) fn make_room_for<T>(list: &mut Vec<T>, more: usize) -> Result<(), Memory>
     ensures room { OnOk result (more ≤ vec_capacity list.new - vec_len list.new) }
     ensures items { list.new.items ≡ list.old.items }
@@ -64,7 +65,7 @@ pub(crate) fn make_room_for<T>(list: &mut Vec<T>, more: usize) -> Result<(), Mem
     Ok(())
 }
 
-// Makes a head for each column, where there are none yet. The first heads lead to no cell.
+// Makes a head for each column, if there are none yet. The first heads lead to no cell.
 fn make_heads(rules: &Rules, heads: &mut Vec<u32>) -> Result<(), Memory>
     ensures made { OnOk result (0 < length heads.new.items) }
     ensures unchanged { OnErr result (heads.new.items ≡ heads.old.items) }

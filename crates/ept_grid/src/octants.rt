@@ -14,8 +14,7 @@ use ept_space::{Rules, cell};
 /// How many octants a box has.
 pub const OCTANTS: u8 = 8;
 
-/// The octant of its box of that depth that a point lies in: bit 0 is set in the upper half of x, bit 1
-/// of y and bit 2 of z.
+/// The octant of a point in its box of this depth. Bit 0 is set in the upper half of x, bit 1 of y and bit 2 of z.
 pub(crate) fn octant_of(rules: &Rules, depth: u8, point: &Point) -> u8
     requires low { depth ≤ rules.now.cube.depth }
     requires inside { InCube rules.now.cube (place point.now) }

@@ -43,7 +43,7 @@ impl Lane {
         self.points.as_slice()
     }
 
-    // Makes room for so many more.
+    // Makes room for `more` points.
     fn reserve(&mut self, more: usize) -> Result<(), Memory>
         ensures points { self.new.points ≡ self.old.points }
         ensures room { OnOk result (more ≤ self.new.room) }
@@ -96,7 +96,7 @@ impl Lane {
         self.points.sort_unstable_by_key(|point| point.id());
     }
 
-    // Gives its points to another list, which has room for them, and their place back: so this takes no memory.
+    // Moves its points to another list, which has room for them, and frees their memory. So this takes no memory.
     fn give(&mut self, to: &mut Lane)
         requires { length self.old.points ≤ to.old.room }
         ensures none { self.new.points ≡ [] }
@@ -171,7 +171,7 @@ impl Outgoing {
         self.lanes[octant as usize].as_slice()
     }
 
-    /// Tells a proof that there is a list for each octant.
+    /// Exposes to the caller's proof that there is a list for each octant. Does nothing at run time.
     pub fn known(&self)
         ensures { length self.now ≡ 8 }
     {
@@ -258,8 +258,8 @@ impl Outgoing {
         self.lanes[octant as usize].sort();
     }
 
-    /// Gives the points of an octant to the list of that octant in `out`, which has room for them, and gives their
-    /// place in memory back. It takes no memory.
+    /// Moves the points of an octant to the list of that octant in `out`, which has room for them, and frees their
+    /// memory. It takes no memory.
     pub(crate) fn give(&mut self, octant: u8, out: &mut Outgoing)
         requires one_of_eight { octant < 8 }
         requires room { length (points_at self.old octant) ≤ (leaving_at out.old octant).room }
@@ -275,7 +275,7 @@ impl Outgoing {
         self.lanes[octant as usize].give(&mut out.lanes[octant as usize]);
     }
 
-    /// Makes room in the list of an octant for so many more points. The points stay, whatever the answer.
+    /// Makes room in the list of an octant for `more` points. The points stay, whatever the result.
     pub(crate) fn reserve(&mut self, octant: u8, more: usize) -> Result<(), Memory>
         requires one_of_eight { octant < 8 }
         ensures points { points_at self.new octant ≡ points_at self.old octant }
@@ -296,7 +296,7 @@ impl Outgoing {
         self.lanes[octant as usize].take(alloc)
     }
 
-    /// Takes the points away. The room stays, and this takes no memory.
+    /// Removes the points. The room stays, and this takes no memory.
     pub fn clear(&mut self)
         ensures points { (o : ℕ) → points_at self.new o ≡ [] }
         ensures all { all_points self.new ≡ [] }

@@ -6,6 +6,6 @@ use ept_point::Point;
 #[derive(Clone, Copy, Debug)]
 pub(crate) struct Cell {
     pub point: Point,
-    /// The number of the next cell of the column and one, or 0 where none comes.
+    /// The number of the next cell of the column plus one, or 0 if there is none.
     pub next: u32,
 }

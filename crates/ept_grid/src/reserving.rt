@@ -14,8 +14,8 @@ use crate::pool::Cell;
 use ept_point::{Memory, Point};
 use ept_space::{Key, Rules};
 
-/// Makes room for these points: for each a cell, and for those of each octant among its losers, where it
-/// is closed, and among what leaves for it. The points that are there stay, whatever the answer.
+/// Makes room for these points: a cell for each, and room for those of each octant among what leaves for it. A closed
+/// octant also gets room among its losers. The points that are there stay, whatever the result.
 pub(crate) fn make_room(
     key: &Key,
     rules: &Rules,
@@ -51,8 +51,8 @@ pub(crate) fn make_room(
     make_lanes(losers, mask, &counts, out)
 }
 
-// Makes room for so many points of each octant, among its losers where it is closed, and among what leaves
-// for it.
+// Makes room for the count of points of each octant among what leaves for it. A closed octant also gets room among its
+// losers.
 fn make_lanes(
     losers: &mut Outgoing,
     mask: u8,
@@ -75,7 +75,7 @@ fn make_lanes(
     Ok(())
 }
 
-// The same of one octant.
+// The same for one octant.
 fn make_lane(
     losers: &mut Outgoing,
     mask: u8,

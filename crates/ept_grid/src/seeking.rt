@@ -13,8 +13,7 @@ use ept_point::Point;
 use ept_space::{Key, Rules};
 use std::sync::ledger::Ledger;
 
-/// The winner of a cell of the node's box, where it has one. Each step is a cell of its column that is
-/// looked at.
+/// The winner of a cell of the node's box, if it has one. Each step is a cell of its column that is read.
 pub(crate) fn winner_of<L: Ledger>(
     key: &Key,
     rules: &Rules,
@@ -46,7 +45,7 @@ pub(crate) fn winner_of<L: Ledger>(
     seek(rules, key.depth, heads, cells, spot, steps)
 }
 
-// The winner of the cell that stands in a place of its column.
+// The winner of the cell in a place of its column.
 fn seek<L: Ledger>(
     rules: &Rules,
     depth: u8,
@@ -77,7 +76,7 @@ fn seek<L: Ledger>(
     None
 }
 
-// Looks at the cell that a link names: one step.
+// Reads the cell that a link names: one step.
 fn look<L: Ledger>(cells: &[Cell], link: u32, steps: &mut Steps<L>) -> Cell
     requires some { 0 < link }
     requires there { link ≤ length cells.now }

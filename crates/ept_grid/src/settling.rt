@@ -15,8 +15,8 @@ use ept_sample::is_better;
 use ept_space::{Key, Rules};
 use std::mem;
 
-/// Puts a point among the winners of a node, and answers the one that loses, where its cell had a point.
-/// There is room for a cell, so this takes no memory.
+/// Puts a point among the winners of a node, and returns the point that loses, if its cell had a point. There is room
+/// for a cell, so this takes no memory.
 pub(crate) fn settle(
     key: &Key,
     rules: &Rules,
@@ -44,7 +44,7 @@ pub(crate) fn settle(
     settle_at(rules, key.depth, heads, cells, point)
 }
 
-// The same at a depth, where cells in one place are one cell.
+// The same at a depth at which cells in one place are one cell.
 fn settle_at(
     rules: &Rules,
     depth: u8,
@@ -77,7 +77,7 @@ fn settle_at(
     None
 }
 
-// Gives the cell of a number to the better of its winner and a point, and answers the other.
+// Leaves the cell of a number to the better of its winner and a point, and returns the worse one.
 fn contend(rules: &Rules, depth: u8, cells: &mut Vec<Cell>, at: usize, point: Point) -> Point
     requires low { depth ≤ rules.now.cube.depth }
     requires all_inside { AllInCube rules.now.cube (winners cells.old.items) }

@@ -1,4 +1,4 @@
-//! Where a cell stands in the box of its node: in which column, and how high.
+//! Where a cell is in the box of its node: in which column, and how high.
 
 ghost use Rattle.std.specs.Prelude.{◌≡◌, ◌<◌, ◌≤◌, ◌*◌, ◌^◌};
 ghost use Rattle.ept_space.specs.OctreeCube.{InCube};

@@ -3,8 +3,7 @@
 use std::marker::Model;
 use std::sync::ledger::{Blank, Book, Ledger, Share};
 
-/// How many steps were taken: cells of a node that were looked at. It takes no bytes, and only a look
-/// changes it.
+/// How many steps were taken: cells of a node that were read. It takes no bytes, and only reading a cell changes it.
 #[derive(Drop)]
 pub struct Steps<L: Ledger> {
     book: Book<L>,
@@ -35,7 +34,7 @@ impl<L: Ledger> Steps<L> {
         Steps { book, share }
     }
 
-    /// One step more.
+    /// One more step.
     pub(crate) fn tick(&mut self)
         ensures { self.new ≡ self.old + 1 }
     {

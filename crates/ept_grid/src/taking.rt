@@ -16,7 +16,7 @@ use crate::settling::settle;
 use ept_point::Point;
 use ept_space::{Key, Rules};
 
-/// Puts a point among those of a node, sends on those that leave, and answers the open octants.
+/// Puts a point among those of a node, sends on those that leave, and returns the open octants.
 pub(crate) fn take_in(
     key: &Key,
     rules: &Rules,

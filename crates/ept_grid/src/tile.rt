@@ -35,7 +35,7 @@ pub(crate) struct Kept {
     pub losers: Outgoing,
 }
 
-/// The points of a node of these points and open octants, or the first cause why they are none.
+/// The points of a node with these points and open octants, or the first cause why they are no node.
 pub(crate) fn node_of_tile(
     lists: Lists,
     key: &Key,
@@ -122,7 +122,7 @@ fn settle_all(lists: Lists, key: &Key, rules: &Rules, points: &[Point]) -> Resul
     Ok(kept)
 }
 
-// Settles the point of a number. A cell is made for it, so that there is no room for losers among the cells.
+// Settles the point of a number. Room for cells is made one cell at a time, so none is made for points that lose.
 fn fill(
     key: &Key,
     rules: &Rules,

@@ -10,7 +10,7 @@ use crate::pool::Cell;
 use crate::spot::{Spot, level_of};
 use ept_space::Rules;
 
-/// Two links of a column with a level between them: to its last cell below, and to the next one.
+/// Two links of a column with a level between them: to its last cell below, and to the next cell.
 #[derive(Clone, Copy, Debug)]
 pub(crate) struct Gap {
     pub below: u32,

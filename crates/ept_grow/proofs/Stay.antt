@@ -1,4 +1,4 @@
--- Where as many points stay as before, the same ones stay.
+-- If the numbers of points that stay are as before, the same points stay.
 use Rattle.std.proofs.Common.{◌≡◌, ◌∙◌, ℕ, zero, suc, ◌+◌, ◌≤◌, ◌<◌, Bool, true, inl, inr, List, [], ◌∷◌, ◌++◌, refl, sym, ap, subst, arith, length, length-append}
 use Rattle.std.proofs.lemmas.List.Sorted.{length_permutation}
 use Rattle.ept_point.specs.declared.point.Point.{Point}
@@ -31,7 +31,7 @@ one_of_rest {X} before o y z ys less (inl is) =
     absurd (not_both (before y y) (subst (λ (w : X). before y w ≡ true) (sym is) less) (o.none_itself y))
 one_of_rest before o y z ys less (inr m) = m
 
--- a rising list whose items are among as many rising ones is that list
+-- a rising list, whose items are in a rising list of the same length, is that list
 pub same-length : {X : Type 0} (before : X → X → Bool) → IsOrder before → (xs ys : List X) → IsRising before xs → IsRising before ys → ((x : X) → IsMember x xs → IsMember x ys) → length xs ≡ length ys → xs ≡ ys
 same-length before o [] [] up up' among same = refl
 same-length before o [] (y ∷ ys) up up' among same = absurd (omega arith)
@@ -55,7 +55,7 @@ length-parts rules depth xs =
     let parts = length_permutation xs (kept rules depth none_open xs ++ all_sent rules depth none_open xs) (IsPermutation-parts rules depth none_open xs) in
     omega (arith, parts, length-append (kept rules depth none_open xs) (all_sent rules depth none_open xs))
 
--- where the same leave to each octant, the same leave
+-- if the same points leave to each octant, the same points leave
 same-sent : (rules : Rules) (depth : ℕ) (xs ys : List Point) → ((o : ℕ) → o < 8 → sent rules depth none_open xs o ≡ sent rules depth none_open ys o) → all_sent rules depth none_open xs ≡ all_sent rules depth none_open ys
 same-sent rules depth xs ys each =
     cc (each 0 (omega arith), each 1 (omega arith), each 2 (omega arith), each 3 (omega arith), each 4 (omega arith), each 5 (omega arith), each 6 (omega arith), each 7 (omega arith))
@@ -71,7 +71,7 @@ module _ (rules : Rules) (ps qs : List Point) (once : HasDistinctIds ps) (once' 
       none [] shallow = refl
       none (p ∷ xs) shallow = absurd (omega (arith, shallow p (inl refl)))
 
-  -- at a key as many points stay, and its children are given the same points
+  -- at a key the same number of points stays, and its children are given the same points
   same_here : (key : VoxelKey) → length (sampling rules ps key) ≡ length (sampling rules qs key) → ((o : ℕ) → o < 8 → given rules ps (child key o) ≡ given rules qs (child key o)) → given rules ps key ≡ given rules qs key
   unfolding sampling
   same_here key as_many below =
@@ -84,7 +84,7 @@ module _ (rules : Rules) (ps qs : List Point) (once : HasDistinctIds ps) (once' 
   given_by (suc steps) key deep as_many =
       same_here key (as_many key (is_within-self key)) (λ o low. given_by steps (child key o) (omega (arith, depth-child key o)) (λ k within. as_many k (is_within-trans key (child key o) k (is_within-child key o) within)))
 
--- where as many points stay within a key, it is given the same points
+-- if the same numbers of points stay within a key, it is given the same points
 pub same-given : (rules : Rules) (ps qs : List Point) (key : VoxelKey) → HasDistinctIds ps → HasDistinctIds qs → AreAmong ps qs → StayAsMany rules ps qs key → given rules ps key ≡ given rules qs key
 same-given rules ps qs key once once' among as_many =
     given_by rules ps qs once once' among (suc rules.cube.depth) key (omega arith) as_many

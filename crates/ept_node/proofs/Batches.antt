@@ -43,17 +43,17 @@ module _ (rules : Rules) (depth : ℕ) (f g : ℕ → Bool) (same : (o : ℕ) �
 
 -- ---- lists of points
 
--- points in id order that are the same points are one list
+-- points in id order that are the same points are the same list
 rising_same : (xs ys : List Point) → IsRising comes_before xs → IsRising comes_before ys → IsPermutation xs ys → xs ≡ ys
 rising_same xs ys up up' same =
     sym (in_id_order-IsRising xs up) ∙ (in_id_order-IsPermutation xs ys (HasDistinctIds-IsRising xs up) same ∙ in_id_order-IsRising ys up')
 
--- a point behind others is the same as in front of them
+-- a point after others is the same as before them
 behind_front : (xs : List Point) (p : Point) → IsPermutation (xs ++ p ∷ []) (p ∷ xs)
 behind_front xs p =
     subst (λ (w : List Point). IsPermutation (xs ++ p ∷ []) (p ∷ w)) (append-nil xs) (IsPermutation-middle xs p [])
 
--- of the points that arrive, those up to one and the node's have different ids, where all have
+-- of the points that arrive, those up to one and the node's have different ids, if all have
 once_to : (points standing : List Point) (i : ℕ) → HasDistinctIds (points ++ standing) → HasDistinctIds (take i points ++ standing)
 unfolding HasDistinctIds
 once_to points standing i once q =
@@ -93,7 +93,7 @@ module _ (old mid new : Node) (key : mid.key ≡ old.key) (its_rules : mid.rules
       subst (λ (r : Rules). points_at after o ≡ points_at between o ++ sent r old.key.depth (is_open_in mid) (given_with mid p) o) its_rules
       (subst (λ (k : VoxelKey). points_at after o ≡ points_at between o ++ sent mid.rules k.depth (is_open_in mid) (given_with mid p) o) key (one.leave o low))
 
-  -- the first one
+  -- the first point
   begins : (before : List Leaving) → StandsStill (bare old) (bare mid) before between → TakesInAll (bare old) (bare new) (p ∷ []) before after
   begins before still = record {
     points = subst (λ (m : ℕ). new.points ≡ kept old.rules old.key.depth (opened m) (in_id_order (p ∷ old.points))) still.mask
@@ -108,7 +108,7 @@ module _ (old mid new : Node) (key : mid.key ≡ old.key) (its_rules : mid.rules
       left : (o : ℕ) → points_at before o ++ sent old.rules old.key.depth (opened old.mask) (in_id_order (p ∷ old.points)) o ≡ points_at after o → IsPermutation (points_at before o ++ sent old.rules old.key.depth (opened old.mask) (in_id_order (p ∷ old.points)) o) (points_at after o)
       left o is = subst (λ (w : List Point). IsPermutation (points_at before o ++ sent old.rules old.key.depth (opened old.mask) (in_id_order (p ∷ old.points)) o) w) is (IsPermutation-refl _)
 
-  -- one behind others
+  -- one point after others
   module _ (no_order : ArrivalsHaveNoOrder) (join : BatchesJoin) (first : List Point) (once : HasDistinctIds (p ∷ (first ++ old.points))) (before : List Leaving) (so_far : TakesInAll (bare old) (bare mid) first before between) where
     abbrev was : ℕ → Bool
     was = opened old.mask
@@ -122,14 +122,14 @@ module _ (old mid new : Node) (key : mid.key ≡ old.key) (its_rules : mid.rules
     abbrev stays : List Point
     stays = kept old.rules old.key.depth was held
 
-    -- the points that the last one meets, in id order, and with it behind them
+    -- the points that the last one meets, in id order, and with it after them
     abbrev met : List Point
     met = in_id_order (p ∷ mid.points)
 
     abbrev met_last : List Point
     met_last = stays ++ p ∷ []
 
-    -- all that arrive and those of the node, in id order, and with the last one behind the others
+    -- all that arrive and those of the node, in id order, and with the last one after the others
     abbrev all : List Point
     all = in_id_order ((first ++ p ∷ []) ++ old.points)
 

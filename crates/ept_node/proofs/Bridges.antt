@@ -50,7 +50,7 @@ shut : (o : ℕ) → has_open blank o ≡ false
 unfolding has_open
 shut o = refl
 
--- where a key is no node, the machine has what stands in one without points
+-- if a key is no node, the machine has what a node without points represents
 pub absent-stands : (key : VoxelKey) (rules : Rules) → StandsFor blank (empty_node key rules)
 absent-stands key rules = record { points = refl; opens = closed }
 
@@ -164,7 +164,7 @@ pub arrives-from : (old new : Node) (points : List Point) (before after : List L
 arrives-from old new [] before after taken some empty = absurd (omega (arith, some))
 arrives-from old new (p ∷ points) before after taken some empty = taken-arrives old new (p ∷ points) before after taken empty
 
--- no points are in id order
+-- a list without points is in id order
 pub none-in-order : IsInIdOrder []
 unfolding IsInIdOrder
 none-in-order = tt
@@ -191,7 +191,7 @@ no_tile key rules = record {
   not_deep = λ e. refl;
 }
 
--- no points are those of a node of which no octant is open
+-- no points are the tile of a node with no octant open
 pub empty-tile : (g : Node) → g.points ≡ [] → g.mask ≡ 0 → IsTile g.key g.rules g.mask g.points
 empty-tile g none shut =
     subst (λ (w : List Point). IsTile g.key g.rules g.mask w) (sym none) (subst (λ (m : ℕ). IsTile g.key g.rules m []) (sym shut) (no_tile g.key g.rules))

@@ -33,11 +33,11 @@ use Rattle.ept_node.specs.Damage.{place_of, IsWrongAt, IsDamaged}
 use Rattle.ept_node.proofs.Bridges.{none-in-order}
 use Rattle.ept_node.proofs.Tellings.{not_back, length-told, tile-told}
 
--- two refusals are one
+-- two refusals are the same
 pub refusal-is : {A : Type 0} (e d : NodeError) → ◌≡◌ {A = Result A NodeError} (Err e) (Err d) → e ≡ d
 refusal-is {A} e d is = cc
 
--- the refusal that was handed on
+-- the refusal that was passed on
 pub handed-on : {A : Type 0} (r : Result A NodeError) (e d : NodeError) → IsErrAnd r (λ f. f ≡ e) → r ≡ Err d → e ≡ d
 handed-on {A} r e d h is = sym (subst (λ (q : Result A NodeError). IsErrAnd q (λ f. f ≡ e)) is h)
 
@@ -51,7 +51,7 @@ rising-order (p ∷ ps) up = (All-members (λ q. comes_before q p ≡ false) ps 
 pub ascending-in_order : (ps : List Point) → IsAscending ps → IsInIdOrder ps
 ascending-in_order ps up = rising-order ps (IsRising-IsAscending ps up)
 
--- ---- what a file that holds a node's tile tells
+-- ---- what a file that holds a node's tile decodes to
 
 told-same : (filed : Filed) (bytes : List ℕ) (g : Node) → IsLabelOf g filed → AllInBox g.rules.cube g.key g.points → IsInIdOrder g.points → bytes ≡ tile g.points → points_told filed.site.rules.cube filed.site.key filed.count bytes ≡ g.points
 told-same filed bytes g label inside up is =
@@ -77,7 +77,7 @@ filed-tile filed None g label inside up fits tells = tt
 filed-tile filed (Some bytes) g label inside up fits tells =
     subst (λ (n : Node). IsTileOf n bytes) (sym (shown-same filed bytes g label inside up tells)) (record { bytes_are = tells; fits = fits })
 
--- a node of the label whose tile the file told is the node that the label shows
+-- a node of the label, whose tile is the visible contents of the file, is the node that the label shows
 grid-same : (filed : Filed) (told : Option (List ℕ)) (g : Node) → FitsLabel filed g → Tells (λ bytes. bytes ≡ tile g.points) told → Tells (λ _. bare g ≡ filed_node told filed) told
 grid-same filed None g fits tells = tt
 grid-same filed (Some bytes) g fits tells =
@@ -87,13 +87,13 @@ pub grid-shows : (filed : Filed) (told : Option (List ℕ)) (g kept : Node) → 
 grid-shows filed told g kept fits tells is =
     subst (λ (n : Node). Tells (λ _. bare n ≡ filed_node told filed) told) (sym is) (grid-same filed told g fits tells)
 
--- a file that was asked to keep bytes tells these
+-- if the contents of a file are visible, they are the bytes that it was asked to keep
 pub steps-tell : (bytes : List ℕ) (old new : Option (List ℕ)) → StepsBy (λ _ now. now ≡ bytes) old new → Tells (λ now. now ≡ bytes) new
 steps-tell bytes old None steps = tt
 steps-tell bytes None (Some now) steps = absurd steps
 steps-tell bytes (Some before) (Some now) steps = steps
 
--- the label stays, whatever the file tells
+-- the label stays, whatever the file holds
 pub label-alike : (filed : Filed) (told : Option (List ℕ)) (g : Node) → IsLabelOf g filed → IsAlike (bare g) (filed_node told filed)
 label-alike filed told g label = record {
   key = label.key;
@@ -116,7 +116,7 @@ spilled-alike filed told g old label is = subst (λ (n : Node). IsAlike n (filed
 pub reloaded-alike : (filed : Filed) (told : Option (List ℕ)) (g old : Node) → IsLabelOf g filed → filed_node told filed ≡ old → IsAlike old (bare g)
 reloaded-alike filed told g old label is = subst (λ (n : Node). IsAlike n (bare g)) is (alike-label filed told g label)
 
--- as many points as the label counts are shown
+-- the number of points shown is the label's count
 pub count-shown : (filed : Filed) (told : Option (List ℕ)) (old : Node) → filed_node told filed ≡ old → filed.count ≡ length old.points
 count-shown filed told old is =
     sym (length-told filed.site.rules.cube filed.site.key filed.count (unwrap_or told [])) ∙ ap (λ (n : Node). length n.points) is
@@ -225,7 +225,7 @@ shown-alike filed told old before after is appends = subst (λ (n : Node). Appen
 pub shown-told : (filed : Filed) (told : Option (List ℕ)) (old : Node) (before after : List Point) → filed_node told filed ≡ old → Tells (λ _. after ≡ before ++ (filed_node told filed).points) told → Tells (λ _. after ≡ before ++ old.points) told
 shown-told filed told old before after is adds = subst (λ (n : Node). Tells (λ _. after ≡ before ++ n.points) told) is adds
 
--- where the file told these bytes, what is wrong with them is wrong with what it holds
+-- if these bytes are the visible contents of the file, what is wrong with them is wrong with what it holds
 pub damaged-told : (node : Node) (told : Option (List ℕ)) (bytes : List ℕ) (kept found at : ℕ) → Tells (λ held. held ≡ bytes) told → kept ≡ length bytes → found ≡ kept → IsWrongAt node at bytes → Tells (IsDamaged node kept found at) told
 damaged-told node None bytes kept found at tells all same wrong = tt
 damaged-told node (Some held) bytes kept found at tells all same wrong = record {

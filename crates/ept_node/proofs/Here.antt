@@ -63,7 +63,7 @@ either_state (Spilled filed) named none = inr refl
 either_state (Unkept kept) named none = absurd (cc)
 either_state (Lost filed why) named none = absurd (cc)
 
--- of two nodes of one state that are not broken, both have their points in memory or none
+-- of two nodes of one state that are not broken, both have their points in memory or neither has
 same_here : (a b : Body) → state_in b ≡ state_in a → fault_in a ≡ None → fault_in b ≡ None → is_here_in b ≡ is_here_in a
 same_here Blank b is none now = blank_away b is
 same_here (Begun site) b is none now = resident_here b is
@@ -97,7 +97,7 @@ module _ {F : Type 0} where
   pub same-here : (n m : node.Node F) → state_of m ≡ state_of n → fault_of n ≡ None → fault_of m ≡ None → is_here m ≡ is_here n
   same-here n m is none now = same_here n.body m.body is none now
 
-  -- a node of the state of one that is not broken is not broken
+  -- a node that has the state of a node that is not broken is not broken
   pub same-fault : (n m : node.Node F) → state_of m ≡ state_of n → fault_of n ≡ None → fault_of m ≡ None
   same-fault n m is none = no-fault m (λ broken. sound-state n none (sym is ∙ broken))
 

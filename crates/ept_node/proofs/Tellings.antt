@@ -1,4 +1,4 @@
--- What the bytes of a file tell of a node's points.
+-- What points the bytes of a node's file decode to.
 use Rattle.std.proofs.Common.{◌≡◌, ◌∙◌, ℕ, zero, suc, ◌^◌, ◌<◌, ◌≤◌, min, ◌⊎◌, inl, inr, Bool, true, false, cond, ℤ, pos, negsuc, ◌+ℤ◌, FitsSigned, List, [], ◌∷◌, ◌++◌, length, map, take, drop, get_or, refl, ap, subst, arith}
 use Rattle.std.specs.Prelude.{All, ◌≤ℤ◌, ◌<ℤ◌}
 use Rattle.std.specs.Int.{Width, w8, w16, w32, saturate_signed}
@@ -57,7 +57,7 @@ stays w (negsuc n) fits = ap negsuc (let h = fits.sfits in omega (arith, h))
 signed_is : (w : Width) (z y : ℤ) → y ≡ z → FitsSigned w z → saturate_signed w y ≡ z
 signed_is w z y e fits = ap (saturate_signed w) e ∙ stays w z fits
 
--- a coordinate of an interval is left where it is
+-- a coordinate inside an interval stays where it is
 within : (least : ℤ) (length : ℕ) (at : ℤ) → IsFrom least length at → brought least length at ≡ at
 within least length at h = let low = h.0 in let high = h.1 in omega (arith, ints, clamps, low, high)
 
@@ -78,7 +78,7 @@ eight_is (a ∷ b ∷ c ∷ d ∷ e ∷ f ∷ []) len low = absurd (omega arith)
 eight_is (a ∷ b ∷ c ∷ d ∷ e ∷ f ∷ g ∷ []) len low = absurd (omega arith)
 eight_is (a ∷ b ∷ c ∷ d ∷ e ∷ f ∷ g ∷ h ∷ i ∷ s) len low = absurd (omega arith)
 
--- ---- a packed point of the box tells itself
+-- ---- a packed point of the box decodes to itself
 
 module _ (cube : OctreeCube) (key : VoxelKey) (p : Point) (inside : InBox cube key (place p)) where
   abbrev b : List ℕ
@@ -268,7 +268,7 @@ same_again p q e = is_false (same_id q p) (λ is. not_both (same_id p q) (same_i
 no_number_between : (a b k l x y : ℕ) → is_first k l a b ≡ false → is_first x y k l ≡ false → is_first x y a b ≡ false
 no_number_between a b k l x y e later = grind (arith, nat_tests)
 
--- what does not come before q, which does not come before p, does not come before p
+-- if r does not come before q, and q does not come before p, r does not come before p
 none_between : (p q r : Point) → comes_before q p ≡ false → comes_before r q ≡ false → comes_before r p ≡ false
 none_between p q r e later = no_number_between p.origin p.number q.origin q.number r.origin r.number e later
 
@@ -314,7 +314,7 @@ unfolding IsInIdOrder ordered
 order-ordered [] = tt
 order-ordered (p ∷ ps) = order-put p (ordered ps) (order-ordered ps)
 
--- points in id order stay as they stand
+-- points in id order stay as they are
 pub ordered-order : (ps : List Point) → IsInIdOrder ps → ordered ps ≡ ps
 unfolding IsInIdOrder ordered
 ordered-order [] up = refl
@@ -335,7 +335,7 @@ order-ascends (p ∷ ps) up once = (followed ps up.0 (HasDistinctIds-head p ps o
     followed (q ∷ qs) all apart =
         IsBefore-comes_before p q (comes_before-total q p (all-member (λ q. comes_before q p ≡ false) q (q ∷ qs) all (inl refl)) (same_again p q (apart q (inl refl))))
 
--- ---- the points that bytes tell
+-- ---- the points that bytes decode to
 
 module _ (cube : OctreeCube) (key : VoxelKey) (count : ℕ) (bytes : List ℕ) where
   pub length-told : length (points_told cube key count bytes) ≡ count
@@ -356,7 +356,7 @@ module _ (cube : OctreeCube) (key : VoxelKey) (count : ℕ) (bytes : List ℕ) w
   pub ascend-told : HasDistinctIds (points_told cube key count bytes) → IsAscending (points_told cube key count bytes)
   ascend-told once = order-ascends (points_told cube key count bytes) order-told once
 
--- bytes that are the tile of points of the box, in id order, tell those
+-- bytes that are the tile of points of the box, in id order, decode to those points
 pub tile-told : (cube : OctreeCube) (key : VoxelKey) (count : ℕ) (bytes : List ℕ) (ps : List Point) → bytes ≡ tile ps → count ≡ length ps → AllInBox cube key ps → IsInIdOrder ps → points_told cube key count bytes ≡ ps
 unfolding points_told
 tile-told cube key count bytes ps is counted inside up =

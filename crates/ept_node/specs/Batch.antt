@@ -18,7 +18,8 @@ use Rattle.ept_core.specs.Flying.{EachIsReordered}
 abbrev pub given_all : Node → List Point → List Point
 given_all node arriving = in_id_order (arriving ++ node.points)
 
--- The node keeps and sends what the sampling says of all points that it is given: in what order they leave is free.
+-- The node keeps and sends what the sampling says of all points that it has and that arrive. The order in which they
+-- leave is free.
 pub record TakesInAll (old new : Node) (arriving : List Point) (before after : List Leaving) : Type 0 where
   pub points : new.points ≡ kept old.rules old.key.depth (is_open_in old) (given_all old arriving)
   pub opens : (o : ℕ) → o < 8 → is_open_in new o ≡ is_open old.rules old.key.depth (is_open_in old) (given_all old arriving) o
@@ -30,14 +31,14 @@ pub record StandsStill (old new : Node) (before after : List Leaving) : Type 0 w
   pub mask : new.mask ≡ old.mask
   pub leave : (o : ℕ) → points_at after o ≡ points_at before o
 
--- The points have arrived; where there are none, nothing changes.
+-- The points have arrived; if there are none, nothing changes.
 abbrev pub HasTaken : Node → Node → List Point → List Leaving → List Leaving → Type 0
 HasTaken old new [] before after = StandsStill old new before after
 HasTaken old new (p ∷ arriving) before after = TakesInAll old new (p ∷ arriving) before after
 
 -- ---- as the machine of events has it
 
--- the machine's node has the points and the open octants of this one
+-- the machine's node has the points and the open octants of this node
 pub record StandsFor (n : core.Node) (node : Node) : Type 0 where
   pub points : n.points ≡ node.points
   pub opens : (o : ℕ) → o < 8 → has_open n o ≡ is_open_in node o
@@ -46,12 +47,12 @@ pub record StandsFor (n : core.Node) (node : Node) : Type 0 where
 abbrev pub seen : Node → core.Node
 seen node = record { points = node.points; opened = map (opened node.mask) all_octants; is_resident = true }
 
--- the flights in which points that leave a node go on to its children, in octant order
+-- the flights of the points that leave a node to its children, in octant order
 abbrev pub flights_of : ℕ → VoxelKey → List Leaving → List Flight
 flights_of actor key out = flat_map (λ o. flight_of actor (child key o) (points_at out o)) all_octants
 
--- A flight with these points has arrived at the node: it is the machine's node afterwards, and what leaves are the machine's
--- flights, but for the order of the points in each.
+-- A flight with these points has arrived at the node. It is the machine's node afterwards. What leaves are the
+-- machine's flights, except for the order of the points in each.
 pub record Arrives (old new : Node) (arriving : List Point) (after : List Leaving) : Type 0 where
   pub node : (n : core.Node) → StandsFor n old → seen new ≡ node_after old.rules old.key n (given_all old arriving)
   pub flights : (n : core.Node) (actor : ℕ) → StandsFor n old → EachIsReordered (flights_after actor old.rules old.key n (given_all old arriving)) (flights_of actor old.key after)

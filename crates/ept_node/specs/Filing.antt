@@ -21,13 +21,13 @@ pub record FitsLabel (filed : Filed) (node : Node) : Type 0 where
   pub ascend : IsAscending node.points
   pub tile : IsTile node.key node.rules node.mask node.points
 
--- bytes are the tile of points that ascend, as many as the label counts
+-- bytes are the tile of points that ascend, and the label counts these points
 pub record AreFiled (filed : Filed) (bytes : List ℕ) (points : List Point) : Type 0 where
   pub bytes_are : bytes ≡ tile points
   pub count : filed.count ≡ length points
   pub ascend : IsAscending points
 
--- as many points as the node has are added to a list, in id order and each in the node's box
+-- points are added to a list, in id order and each in the node's box; the node has the same number of points
 pub record AppendsAlike (node : Node) (before after : List Point) : Type 0 where
   pub added : List Point
   pub grows : after ≡ before ++ added

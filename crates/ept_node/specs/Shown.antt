@@ -18,19 +18,20 @@ use Rattle.ept_node.specs.declared.body.Body.TheVariants.{Blank, Begun, Resident
 use Rattle.ept_node.specs.declared.node.Node.{Node}
 use Rattle.ept_node.specs.Told.{points_told}
 
--- a node of the octree, whatever room it has for more
+-- a node of the octree, without its room for more points
 abbrev pub bare : grid.Node → grid.Node
 bare g = record { key = g.key; rules = g.rules; points = g.points; mask = g.mask; room = grid.no_room }
 
--- the node of a key without points, of which no octant is open
+-- the node of a key without points and with no octant open
 abbrev pub empty_node : VoxelKey → Rules → grid.Node
 empty_node key rules = record { key = key; rules = rules; points = []; mask = 0; room = grid.no_room }
 
--- what stands for a node where there is none
+-- a node to represent that there is none
 abbrev pub no_node : grid.Node
 no_node = empty_node root (plain_rules (record { corner = []; e = 0; s = 0; depth = 0 }) 0)
 
--- a node whose points are in its file, with those that the file tells
+-- a node whose points are in its file, with the points that its visible contents decode to, or with others if they are
+-- not visible
 abbrev pub filed_node : Option (List ℕ) → Filed → grid.Node
 filed_node told filed = record {
   key = filed.site.key;
@@ -69,7 +70,7 @@ fault_in (Spilled filed) = None
 fault_in (Unkept kept) = Some SpillFault
 fault_in (Lost filed why) = Some why
 
--- the node, of which the file tells this
+-- the node, given the contents of its file if they are visible
 abbrev pub node_in : Option (List ℕ) → Body → grid.Node
 node_in told Blank = no_node
 node_in told (Begun site) = empty_node site.key site.rules
@@ -88,9 +89,10 @@ file_of node = node.file
 abbrev pub state_of : {F : Type 0} → Node F → NodeState
 state_of node = state_in node.body
 
--- Its key, the rules of its sampling, its points in id order and its open octants; `no_node` where it is blank. Of points in the
--- file it has those that the file tells; where the file does not tell, others in their place, as many and in the node's box.
--- A broken node shows what it showed before it broke.
+-- Its key, the rules of its sampling, its points in id order and its open octants; `no_node` if it is blank. If its
+-- points are in the file and the contents are visible, it has the points that they decode to. If they are not visible,
+-- it has other points in their place: the same number of them, in the node's box. A broken node shows what it showed
+-- before it broke.
 abbrev pub node_of : {F : Type 0} → (F → Option (List ℕ)) → Node F → grid.Node
 node_of held node = node_in (held node.file) node.body
 
@@ -102,7 +104,7 @@ is_here node = is_here_in node.body
 abbrev pub fault_of : {F : Type 0} → Node F → Option NodeError
 fault_of node = fault_in node.body
 
--- the slots of its children, octant by octant; 0 where there is none
+-- the slots of its children, octant by octant; 0 if there is none
 abbrev pub children_of : {F : Type 0} → Node F → List ℕ
 children_of node = node.children
 
@@ -128,19 +130,19 @@ HasRoom old new = state_of old ≡ states.Resident → HasPlace new.body
 
 -- ---- a node and its file
 
--- the same node but for which points it has: as many
+-- the same node, except for which points it has; their number is the same
 pub record IsAlike (old new : grid.Node) : Type 0 where
   pub key : new.key ≡ old.key
   pub rules : new.rules ≡ old.rules
   pub count : length new.points ≡ length old.points
   pub mask : new.mask ≡ old.mask
 
--- bytes are the tile of a node, which fits the node's key where its ids are all different
+-- bytes are the tile of a node, which fits the node's key if its ids are all different
 pub record IsTileOf (node : grid.Node) (bytes : List ℕ) : Type 0 where
   pub bytes_are : bytes ≡ tile node.points
   pub fits : HasDistinctIds node.points → IsTile node.key node.rules node.mask node.points
 
--- the file of a spilled node, where it tells, holds the tile of the points that the node shows
+-- if its contents are visible, the file of a spilled node holds the tile of the points that the node shows
 abbrev pub IsFiled : {F : Type 0} → (F → Option (List ℕ)) → Node F → Type 0
 IsFiled held node = state_of node ≡ states.Spilled → Tells (IsTileOf (node_of held node)) (held (file_of node))
 
@@ -148,17 +150,17 @@ IsFiled held node = state_of node ≡ states.Spilled → Tells (IsTileOf (node_o
 abbrev pub HasKept : {F : Type 0} → (F → ℕ) → Node F → Type 0
 HasKept keeps node = state_of node ≡ states.Spilled → 0 < keeps (file_of node)
 
--- Of a node and its file it is known: a spilled node's file was asked to keep something, and holds its tile where it tells; where the
--- file of a broken node failed, its count of faults is not 0.
+-- What is known of a node and its file. A spilled node's file was asked to keep something, and holds its tile if its
+-- contents are visible. If the file of a broken node failed, its count of faults is not 0.
 pub record AgreesWithFile {F : Type 0} (held : F → Option (List ℕ)) (faults keeps : F → ℕ) (node : Node F) : Type 0 where
   pub filed : IsFiled held node
   pub kept : HasKept keeps node
   pub failed : fault_of node ≡ Some SpillFault → 0 < faults (file_of node)
 
--- a file tells what it holds
+-- the contents of a file are visible
 abbrev pub DoesTell : {F : Type 0} → (F → Option (List ℕ)) → F → Type 0
 DoesTell held file = (bytes : List ℕ) × (held file ≡ Some bytes)
 
--- each does
+-- the contents of each file are visible
 abbrev pub IsTelling : {F : Type 0} → (F → Option (List ℕ)) → Type 0
 IsTelling {F} held = (file : F) → DoesTell held file

@@ -1,5 +1,6 @@
--- The points that bytes tell a node that counts its points: those of its tile, where they are one. Whatever the bytes are, there are
--- so many of them, each lies in the node's box, and they stand in id order.
+-- The points that bytes decode to, for a node with a count: the points of the tile, if the bytes are the node's tile.
+-- Whatever the bytes are, the number of points is the node's count, each lies in the node's box, and they are in id
+-- order.
 use Rattle.std.specs.Prelude.{ℕ, zero, suc, ◌-◌, ◌*◌, ◌^◌, ◌<◌, ◌≤◌, min, ℤ, pos, negsuc, ◌+ℤ◌, FitsSigned, List, [], ◌∷◌, length, take, drop, slice_index, unwrap_or, refl, if◌then◌else◌}
 use Rattle.std.specs.Int.{Width, w32, cast_signed, saturate_signed, int_min, int_max}
 use Rattle.std.proofs.Common.{arith}
@@ -38,11 +39,11 @@ eight_told bytes =
     byte_told bytes 0 ∷ byte_told bytes 1 ∷ byte_told bytes 2 ∷ byte_told bytes 3 ∷ byte_told bytes 4 ∷ byte_told bytes 5
     ∷ byte_told bytes 6 ∷ byte_told bytes 7 ∷ []
 
--- a coordinate brought between the least one and those of a length from it on
+-- a coordinate moved into the interval of this length from the least coordinate on
 abbrev pub brought : ℤ → ℕ → ℤ → ℤ
 brought least length at = int_max least (int_min (least +ℤ pos (length - 1)) at)
 
--- a coordinate on the axis of this number brought into the box of a key, the key's index on that axis given
+-- a coordinate on the axis of this number, moved into the box of a key; the key's index on that axis is given
 abbrev pub in_box : OctreeCube → ℕ → ℕ → ℕ → ℤ → ℤ
 in_box cube depth axis index at =
     saturate_signed w32 (brought (coordinate cube.corner axis +ℤ pos (index * box_side cube depth)) (box_side cube depth) at)
@@ -70,7 +71,7 @@ are_bytes bytes (suc (suc (suc (suc (suc (suc zero)))))) = omega arith
 are_bytes bytes (suc (suc (suc (suc (suc (suc (suc zero))))))) = omega arith
 are_bytes bytes (suc (suc (suc (suc (suc (suc (suc (suc i)))))))) = omega arith
 
--- the point of the box of a key that the bytes tell
+-- the point of the box of a key that the bytes decode to
 unfoldable pub point_told : OctreeCube → VoxelKey → List ℕ → Point
 point_told cube key bytes = record {
   x = in_box cube key.depth 0 key.x (signed_told X 0 bytes);
@@ -122,23 +123,23 @@ point_told cube key bytes = record {
 
 -- ---- all of them
 
--- so many points, each of the next packed point's bytes
+-- `count` points, each read from the bytes of the next packed point
 unfoldable pub points_read : OctreeCube → VoxelKey → ℕ → List ℕ → List Point
 points_read cube key zero bytes = []
 points_read cube key (suc count) bytes =
     point_told cube key (take packed_width bytes) ∷ points_read cube key count (drop packed_width bytes)
 
--- a point put in front of the first that does not come before it
+-- a point put before the first point that does not come before it
 abbrev pub put_in_order : Point → List Point → List Point
 put_in_order p [] = p ∷ []
 put_in_order p (q ∷ points) = if comes_before q p then q ∷ put_in_order p points else p ∷ q ∷ points
 
--- the points in id order; those of one id stay as they stand
+-- the points in id order; points with the same id stay in their order
 unfoldable pub ordered : List Point → List Point
 ordered [] = []
 ordered (p ∷ points) = put_in_order p (ordered points)
 
--- the points that the bytes tell a node that counts so many
+-- the points that the bytes decode to, for a node with this count
 unfoldable pub points_told : OctreeCube → VoxelKey → ℕ → List ℕ → List Point
 points_told cube key count bytes = ordered (points_read cube key count bytes)
 

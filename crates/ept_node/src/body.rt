@@ -10,8 +10,7 @@ use ept_point::Memory;
 use ept_space::{Key, Rules};
 use std::alloc::Global;
 
-/// What a node has in memory. The points, and what is known of those in a file, are behind a box, so that a node
-/// is small.
+/// What a node has in memory. The points, and what is known of points in a file, are in a box, so that a node is small.
 #[derive(Debug, Drop)]
 pub(crate) enum Body {
     /// It is the node of no key.
@@ -22,14 +21,14 @@ pub(crate) enum Body {
     Resident(Box<Grid>),
     /// The points are in the spill file.
     Spilled(Box<Filed>),
-    /// The spill file has not kept the points, which are still there.
+    /// The spill file failed to keep the points, which are still there.
     Unkept(Box<Grid>),
-    /// The spill file has not given the points back.
+    /// The spill file failed to return the points.
     Lost(Box<Filed>, NodeError),
 }
 
-// A grid without points, in a box. A function apart, since room for a whole grid would else be cleared at
-// each arrival.
+// A grid without points, in a box. It is a function of its own because room for a whole grid would otherwise be cleared
+// at each arrival.
 #[cold]
 #[inline(never)]
 pub(crate) fn empty_grid(alloc: Global, key: Key, rules: &Rules) -> Result<Box<Grid>, Memory>

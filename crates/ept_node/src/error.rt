@@ -1,17 +1,19 @@
-//! Why a node does not spill or give back its points.
+//! Why a node does not spill or reload its points.
 
 use ept_base::Failed;
 use ept_point::Memory as OutOfMemory;
 use std::alloc::{AllocError, AllocFailed};
 
-/// Why a node does not spill its points, or not give them back.
+/// Why a node does not spill or reload its points.
 #[derive(Clone, Copy, Debug, PartialEq, Eq)]
 pub enum NodeError {
     /// The spill file failed: its count of faults rose.
     SpillFault,
-    /// The spill file gave back other bytes than those of the node's tile, in whose place it has `found` bytes instead of
-    /// the `kept` ones; or the point of the number `at`, from 0, is the first that is no point, does not come behind the one
-    /// before it by its id, or does not fit the node. Where each does and they are too many together, `at` is their number.
+    /// The spill file returned other bytes than those of the node's tile. If `found`, the number of its bytes, differs
+    /// from `kept`, the number that was kept, `at` is the first point that is not whole. If the numbers are equal, `at`
+    /// is the number, from 0, of the first bad point. Such a point is no point, does not come after the one before it
+    /// by its id, or does not fit the node. If each point is good alone but they are too many together, `at` is their
+    /// number.
     SpillDamaged { kept: u64, found: u64, at: u64 },
     /// Memory ran out.
     Memory,

@@ -25,7 +25,7 @@ use ept_point::{
 };
 use std::alloc::Global;
 
-/// Puts the points of a node into a file, as the bytes of its tile. It answers what stays in memory.
+/// Puts the points of a node into a file, as the bytes of its tile. Returns what stays in memory.
 pub(crate) fn keep_grid<F: SpillFile>(
     alloc: Global,
     file: &mut F,
@@ -66,7 +66,7 @@ fn pack_grid(alloc: Global, grid: &Grid) -> Result<(Box<Filed>, Vec<u8>), NodeEr
     Ok((Box::new(alloc, filed)?, bytes))
 }
 
-// What stays in memory of a node, of so many points and these bytes.
+// What stays in memory of a node with this number of points and these bytes.
 fn label(grid: &Grid, count: u64, bytes: &[u8]) -> Filed
     requires count { count ≡ length grid.now.points }
     requires bytes { bytes.now ≡ tile grid.now.points }
@@ -87,7 +87,7 @@ fn label(grid: &Grid, count: u64, bytes: &[u8]) -> Filed
     }
 }
 
-/// The node whose points a file gives back. The file holds what it held.
+/// The node whose points a file returns. The file holds what it held.
 pub(crate) fn load_grid<F: SpillFile>(
     alloc: Global,
     file: &mut F,
@@ -127,8 +127,8 @@ pub(crate) fn append(grid: &Grid, out: &mut Vec<Point>) -> Result<(), NodeError>
     Ok(())
 }
 
-/// Appends the points that the file of a spilled node gives back, in id order, and makes no node of them. The file holds what
-/// it held. After a refusal the list is as it was.
+/// Appends the points that the file of a spilled node returns, in id order, and makes no node of them. The file holds
+/// what it held. After a refusal the list is as it was.
 pub(crate) fn append_filed<F: SpillFile>(
     alloc: Global,
     file: &mut F,
@@ -158,7 +158,7 @@ pub(crate) fn append_filed<F: SpillFile>(
     Ok(())
 }
 
-// The points whose tile these bytes are, where each lies in the box of the node.
+// The points whose tile these bytes are, if each lies in the box of the node.
 fn points_in_box(alloc: Global, filed: &Filed, bytes: Vec<u8>) -> Result<Vec<Point>, NodeError>
     requires { length bytes.items ≡ packed_width * filed.now.count }
     ensures points { IfOk result (λ points. AreFiled filed.now bytes.items points.items) }
@@ -178,7 +178,7 @@ fn points_in_box(alloc: Global, filed: &Filed, bytes: Vec<u8>) -> Result<Vec<Poi
     }
 }
 
-// The points whose tile these bytes are. The bytes are gone when it returns.
+// The points whose tile these bytes are. The bytes are freed when it returns.
 fn points_of_bytes(alloc: Global, filed: &Filed, bytes: Vec<u8>) -> Result<Vec<Point>, NodeError>
     requires { length bytes.items ≡ packed_width * filed.now.count }
     ensures points { IfOk result (λ points. AreFiled filed.now bytes.items points.items) }
@@ -198,7 +198,7 @@ fn points_of_bytes(alloc: Global, filed: &Filed, bytes: Vec<u8>) -> Result<Vec<P
     }
 }
 
-// The bytes of a node's tile, as many as the file has kept.
+// The bytes of a node's tile: the number of bytes that the file has kept.
 fn load_bytes<F: SpillFile>(
     alloc: Global,
     file: &mut F,
@@ -228,7 +228,7 @@ fn load_bytes<F: SpillFile>(
     Ok(bytes)
 }
 
-// The node of a key, count and open octants whose tile these bytes are. The bytes are gone before the node is made.
+// The node of a key, count and open octants whose tile these bytes are. The bytes are freed before the node is made.
 fn grid_of_bytes(alloc: Global, filed: &Filed, bytes: Vec<u8>) -> Result<Grid, NodeError>
     requires { length bytes.items ≡ packed_width * filed.now.count }
     ensures fits { IfOk result (FitsLabel filed.now) }
@@ -252,7 +252,7 @@ fn grid_of_bytes(alloc: Global, filed: &Filed, bytes: Vec<u8>) -> Result<Grid, N
     }
 }
 
-// As many bytes as the file has kept are not the node's tile.
+// The file returned the number of bytes that it kept, but they are not the node's tile.
 fn damaged_at(filed: &Filed, at: u64) -> NodeError
     ensures { result ≡ SpillDamaged (packed_width * filed.now.count) (packed_width * filed.now.count) at }
 {

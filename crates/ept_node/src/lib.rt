@@ -1,5 +1,5 @@
-//! A node of the octree as it lies in a slot of a table: with its spill file, the slots of its children,
-//! and, where it is not blank, its points, in memory or in its file. It is small where it has none in memory.
+//! A node of the octree as it lies in a slot of a table, with its spill file and the slots of its children. Unless it
+//! is blank it has points, in memory or in its file. It is small if it has none in memory.
 #![tactic(auto)]
 
 mod batch;

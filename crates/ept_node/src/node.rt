@@ -30,7 +30,7 @@ use std::alloc::Global;
 
 /// A node of the octree in a slot of a table. It owns its spill file in each state.
 ///
-/// It can't be dropped where its file can't: the room of the file takes that back (`into_file`).
+/// It can't be dropped if its file can't: the room of the file takes the file back (`into_file`).
 #[derive(Debug)]
 pub struct Node<F> {
     pub(crate) file: F,
@@ -75,7 +75,7 @@ impl<F> Node<F> {
         }
     }
 
-    /// The refusal that broke the node; None where it is not broken.
+    /// The refusal that broke the node; `None` if it is not broken.
     pub fn fault(&self) -> Option<NodeError>
         ensures fault { result ≡ fault_of self.now }
         ensures exactly { IsSome result ↔ (state_of self.now ≡ Broken) }
@@ -87,7 +87,7 @@ impl<F> Node<F> {
         }
     }
 
-    /// Whether its points are in memory: those of a resident node, and of one that its file has not kept.
+    /// Whether its points are in memory. They are if it is resident, or broken because its file failed to keep them.
     pub fn is_here(&self) -> bool
         ensures { result ≡ is_here self.now }
     {
@@ -99,7 +99,7 @@ impl<F> Node<F> {
 }
 
 impl<F: SpillFile> Node<F> {
-    /// Makes a blank node that of a key, without points, open octants and children. It takes no memory.
+    /// Makes a blank node the node of a key, without points, open octants and children. It takes no memory.
     pub fn begin(&mut self, key: Key, rules: &Rules)
         requires blank { state_of self.old ≡ Blank }
         requires low { key.depth ≤ rules.now.cube.depth }
@@ -113,7 +113,7 @@ impl<F: SpillFile> Node<F> {
         self.body = Body::Begun(Site { key, rules: *rules });
     }
 
-    /// Makes a node blank again that has no points, no open octants and no children.
+    /// Makes a node without points, open octants and children blank again.
     pub fn unbegin(&mut self)
         requires resident { state_of self.old ≡ Resident }
         requires points { (node_of F.held self.old).points ≡ [] }
@@ -155,7 +155,7 @@ impl<F: SpillFile> Node<F> {
         }
     }
 
-    /// The slot of the child of an octant, or 0 where none is set.
+    /// The slot of the child of an octant, or 0 if none is set.
     pub fn child(&self, octant: u8) -> u32
         requires named { state_of self.now ≢ Blank }
         requires one_of_eight { octant < 8 }
@@ -177,7 +177,7 @@ impl<F: SpillFile> Node<F> {
         self.children[octant as usize] = slot;
     }
 
-    /// The open octants: bit o is set where octant o is open.
+    /// The open octants: bit o is set if octant o is open.
     pub fn open_mask(&self) -> u8
         requires { state_of self.now ≢ Blank }
         ensures { result ≡ (node_of F.held self.now).mask }
@@ -204,8 +204,8 @@ impl<F: SpillFile> Node<F> {
         }
     }
 
-    /// Gives a node without points these points and open octants, or tells the first cause why they are none
-    /// of the node's key. After a refusal the node is as it was. The ids ascend.
+    /// Gives a node without points these points and open octants, or returns the first cause why they are none of the
+    /// node's key. After a refusal the node is as it was. The ids ascend.
     pub fn fill(&mut self, alloc: Global, mask: u8, points: &[Point]) -> Result<(), GridError>
         requires resident { state_of self.old ≡ Resident }
         requires empty { (node_of F.held self.old).points ≡ [] }
@@ -231,8 +231,7 @@ impl<F: SpillFile> Node<F> {
         Ok(())
     }
 
-    // Makes room for the points of a node at which none has arrived yet. What it shows stays, whatever the
-    // answer.
+    // Makes room for the points of a node at which none has arrived yet. What it shows stays, whatever the result.
     pub(crate) fn wake(&mut self, alloc: Global) -> Result<(), Memory>
         ensures same { ShowsTheSame F.held self.old self.new }
         ensures here { OnOk result (HasRoom self.old self.new) }
@@ -244,8 +243,8 @@ impl<F: SpillFile> Node<F> {
         Ok(())
     }
 
-    /// Lets points arrive, one after another. Those that leave are added to `out`, each in the list of its
-    /// octant. After `Memory` the points of both are as they were.
+    /// Lets points arrive, one after another. The points that leave are added to `out`, each in the list of its octant.
+    /// After `Memory` the points of both are as they were.
     pub fn arrive_batch(
         &mut self,
         alloc: Global,
@@ -262,15 +261,15 @@ impl<F: SpillFile> Node<F> {
         ensures children { children_of self.new ≡ children_of self.old }
         ensures file { file_of self.new ≡ file_of self.old }
 
-        // Whatever the ids, no point is lost, and each that leaves lies in its octant, which is open.
+        // Whatever the ids, no point is lost, and each point that leaves lies in its octant, which is open.
         ensures together { OnOk result ((test : Point → Bool) →
             count_by test (node_of F.held self.new).points + count_by test (all_points out.new)
             ≡ count_by test points.now + count_by test (node_of F.held self.old).points + count_by test (all_points out.old)) }
         ensures sends_on { OnOk result ((o : ℕ) → o < 8 →
             SendsOn (node_of F.held self.old) (node_of F.held self.new) o (points_at out.old o) (points_at out.new o)) }
 
-        // Where the ids are all different, the node keeps and sends what the sampling says, and that is the arrival of
-        // a flight of the machine.
+        // If the ids are all different, the node keeps and sends what the sampling says. That is the arrival of a
+        // flight of the machine.
         ensures takes_in { OnOk result (HasDistinctIds (points.now ++ (node_of F.held self.old).points) →
             HasTaken (node_of F.held self.old) (node_of F.held self.new) points.now out.old out.new) }
         ensures arrives { OnOk result (HasDistinctIds (points.now ++ (node_of F.held self.old).points) → 0 < length points.now →
@@ -285,7 +284,7 @@ impl<F: SpillFile> Node<F> {
         Ok(())
     }
 
-    /// Tells a proof what each node keeps.
+    /// Exposes what each node keeps to the caller's proof. Does nothing at run time.
     pub fn known(&self)
         requires { state_of self.now ≢ Blank }
         ensures low { (node_of F.held self.now).key.depth ≤ (node_of F.held self.now).rules.cube.depth }

@@ -1,4 +1,4 @@
-//! Where a node stands, and what is known of one whose points are in its spill file.
+//! The place of a node in the octree, and what is known of a node whose points are in its spill file.
 
 ghost use Rattle.std.specs.Prelude.{◌≡◌, ◌<◌, ◌≤◌, ◌*◌, ◌^◌};
 ghost use Rattle.ept_point.specs.Dimensions.{packed_width};
@@ -6,7 +6,7 @@ ghost use Rattle.ept_node.specs.Told.{HasPlaces};
 
 use ept_space::{Key, Rules};
 
-/// Where a node stands: its key, and the rules of its sampling.
+/// The place of a node in the octree: its key, and the rules of its sampling.
 #[derive(Debug, Drop)]
 pub(crate) struct Site {
     pub(crate) key: Key,
@@ -14,15 +14,14 @@ pub(crate) struct Site {
     ghost low: { key.depth ≤ rules.cube.depth },
 }
 
-/// What is known of a node whose points are in its spill file: where it stands, how many points it has, and its open
-/// octants.
+/// What is known of a node whose points are in its spill file: its place, how many points it has, and its open octants.
 #[derive(Debug, Drop)]
 pub(crate) struct Filed {
     pub(crate) site: Site,
     pub(crate) count: u64,
     pub(crate) mask: u8,
     ghost deepest: { site.key.depth ≡ site.rules.cube.depth → mask ≡ 0 },
-    // Its tile is one that fits in memory.
+    // Its tile fits in memory.
     ghost fits: { packed_width * count < 2 ^ 64 },
     ghost places: { 0 < count → HasPlaces site.rules.cube site.key },
 }
@@ -35,7 +34,7 @@ impl Filed {
     ghost use Rattle.ept_grid.specs.Node.{IsInIdOrder};
     ghost use Rattle.ept_node.specs.Shown.{filed_node};
 
-    /// Tells a proof what the node shows, whatever its file tells.
+    /// Exposes what the node shows to the caller's proof, whatever its file holds. Does nothing at run time.
     pub(crate) fn known(&self)
         ensures low { self.now.site.key.depth ≤ self.now.site.rules.cube.depth }
         ensures inside { (told : Option (List ℕ)) → AllInBox self.now.site.rules.cube self.now.site.key (filed_node told self.now).points }

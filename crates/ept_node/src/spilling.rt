@@ -25,24 +25,24 @@ use std::alloc::Global;
 use std::mem::replace;
 
 impl<F: SpillFile> Node<F> {
-    /// Puts the points of a resident node into its spill file, as the bytes of its tile. Its key, its rules, its
-    /// count, its open octants and its children stay in memory. The room that the points had is given back.
+    /// Puts the points of a resident node into its spill file, as the bytes of its tile. Its key, its rules, its count,
+    /// its open octants and its children stay in memory. The room that the points had is freed.
     ///
     /// # Errors
     ///
-    /// `SpillFault` where the file fails: the node is broken then, and its points stay in memory. After `Memory` the node is
-    /// as it was, and the file holds what it held.
+    /// `SpillFault` if the file fails: the node is broken then, and its points stay in memory. After `Memory` the node
+    /// is as it was, and the file holds what it held.
     pub fn spill(&mut self, alloc: Global) -> Result<(), NodeError>
         requires { state_of self.old ≡ Resident }
         ensures ok { OnOk result (state_of self.new ≡ Spilled) }
 
-        // Where the file tells, it holds the tile, and the node shows what it showed.
+        // If the file's contents are visible, it holds the tile, and the node shows what it showed.
         ensures told { OnOk result (Tells (λ _. node_of F.held self.new ≡ node_of F.held self.old) (F.held (file_of self.new))) }
         ensures tile { OnOk result (Tells (λ bytes. bytes ≡ tile (node_of F.held self.old).points) (F.held (file_of self.new))) }
         ensures filed { IsFiled F.held self.new }
         ensures telling { DoesTell F.held (file_of self.old) → DoesTell F.held (file_of self.new) }
 
-        // Whatever the file tells, and whatever the answer.
+        // Whatever the file holds, and whatever the result.
         ensures alike { IsAlike (node_of F.held self.old) (node_of F.held self.new) }
         ensures children { children_of self.new ≡ children_of self.old }
 
@@ -55,7 +55,7 @@ impl<F: SpillFile> Node<F> {
             → (state_of self.new ≡ Resident) × (F.held (file_of self.new) ≡ F.held (file_of self.old)) }
         ensures only { IfErr result (λ e. (e ≡ NodeError.SpillFault) ⊎ (e ≡ NodeError.Memory)) }
 
-        // The file was asked once; where memory ran out, it may not have been asked.
+        // The file was asked once; if memory ran out, it may not have been asked.
         ensures counted { result ≢ Err NodeError.Memory
             → F.keeps (file_of self.new) ≡ counts_on (F.keeps (file_of self.old)) 1 }
         ensures at_most_once { (F.keeps (file_of self.new) ≡ counts_on (F.keeps (file_of self.old)) 1)
@@ -98,21 +98,21 @@ impl<F: SpillFile> Node<F> {
         };
     }
 
-    /// Brings the points of a spilled node back into memory, into lists of their own size. The file holds what it held.
+    /// Reads the points of a spilled node back into memory, into lists of their own size. The file holds what it held.
     ///
     /// # Errors
     ///
-    /// `SpillFault` where the file fails, and `SpillDamaged` where it gives back other bytes than those of a tile that fits the
-    /// node: the node is broken then. After `Memory` the node is as it was.
+    /// `SpillFault` if the file fails, and `SpillDamaged` if it returns other bytes than those of a tile that fits the
+    /// node. After both the node is broken. After `Memory` the node is as it was.
     pub fn reload(&mut self, alloc: Global) -> Result<(), NodeError>
         requires { state_of self.old ≡ Spilled }
         ensures ok { OnOk result (state_of self.new ≡ Resident) }
 
-        // Where the file tells, the node shows what it showed.
+        // If the file's contents are visible, the node shows what it showed.
         ensures told { OnOk result (Tells (λ _. node_of F.held self.new ≡ node_of F.held self.old) (F.held (file_of self.old))) }
         ensures tile { OnOk result (Tells (λ bytes. bytes ≡ tile (node_of F.held self.new).points) (F.held (file_of self.old))) }
 
-        // Whatever it tells, they are as many points as the node counts, and fit it.
+        // Whatever the file holds, the number of the points is the node's count, and they fit the node.
         ensures alike { IsAlike (node_of F.held self.old) (node_of F.held self.new) }
         ensures ascend { OnOk result (IsAscending (node_of F.held self.new).points) }
         ensures fits { OnOk result (IsTile (node_of F.held self.new).key (node_of F.held self.new).rules
@@ -124,7 +124,7 @@ impl<F: SpillFile> Node<F> {
             → (state_of self.new ≡ Broken) × (fault_of self.new ≡ Some e) × (is_here self.new ≡ false)) }
         ensures memory { result ≡ Err NodeError.Memory → state_of self.new ≡ Spilled }
 
-        // Damage is told only of bytes that are damaged, and never where the file tells that it holds the node's tile.
+        // Damage is reported only of bytes that are damaged, and never if the file visibly holds the node's tile.
         ensures kept { (kept found at : ℕ) → result ≡ Err (NodeError.SpillDamaged kept found at)
             → kept ≡ packed_width * length (node_of F.held self.old).points }
         ensures damaged { (kept found at : ℕ) → result ≡ Err (NodeError.SpillDamaged kept found at)
@@ -151,7 +151,7 @@ impl<F: SpillFile> Node<F> {
         }
     }
 
-    // Breaks a node whose points are in its file, unless they did not come for want of memory.
+    // Breaks a node whose points are in its file, unless they did not come because memory ran out.
     fn give_up_loading(&mut self, why: NodeError)
         requires { state_of self.old ≡ Spilled }
         ensures broken { why ≢ NodeError.Memory
@@ -175,18 +175,18 @@ impl<F: SpillFile> Node<F> {
     ///
     /// # Errors
     ///
-    /// Where the node is spilled, `SpillFault` where the file fails, and `SpillDamaged` where it gives back other bytes than
-    /// those of as many points in id order, each in the node's box: the node is broken then. `Memory` in either case, and
-    /// nothing else where it is resident. After each the list is as it was.
+    /// `SpillFault` if the node is spilled and the file fails. `SpillDamaged` if it is spilled and the file returns no
+    /// tile of the node's count of points, in id order and in its box. After both the node is broken. `Memory` in
+    /// either state, and nothing else if the node is resident. After each the list is as it was.
     pub fn points_into(&mut self, alloc: Global, out: &mut Vec<Point>) -> Result<(), NodeError>
         requires { (state_of self.old ≡ Resident) ⊎ (state_of self.old ≡ Spilled) }
 
-        // The points of a resident node, and of a spilled one where its file tells, are those that it shows.
+        // The appended points are those that the node shows, if it is resident or the file's contents are visible.
         ensures ok { OnOk result (state_of self.old ≡ Resident → out.new.items ≡ out.old.items ++ (node_of F.held self.old).points) }
         ensures told { OnOk result (Tells (λ _. out.new.items ≡ out.old.items ++ (node_of F.held self.old).points)
             (F.held (file_of self.old))) }
 
-        // Whatever it tells, they are as many, in id order, and lie in its box.
+        // Whatever the file holds, their number is the node's count, they are in id order, and they lie in its box.
         ensures appended { OnOk result (AppendsAlike (node_of F.held self.old) out.old.items out.new.items) }
         ensures in_order { IsInIdOrder (node_of F.held self.old).points }
         ensures unchanged { OnErr result (out.new.items ≡ out.old.items) }
@@ -200,7 +200,7 @@ impl<F: SpillFile> Node<F> {
             → (state_of self.new ≡ Broken) × (fault_of self.new ≡ Some e) × (is_here self.new ≡ false)) }
         ensures memory { result ≡ Err NodeError.Memory → state_of self.new ≡ state_of self.old }
 
-        // Damage is told only of bytes that are damaged, and never where the file tells that it holds the node's tile.
+        // Damage is reported only of bytes that are damaged, and never if the file visibly holds the node's tile.
         ensures kept { (kept found at : ℕ) → result ≡ Err (NodeError.SpillDamaged kept found at)
             → kept ≡ packed_width * length (node_of F.held self.old).points }
         ensures damaged { (kept found at : ℕ) → result ≡ Err (NodeError.SpillDamaged kept found at)

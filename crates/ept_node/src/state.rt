@@ -9,6 +9,6 @@ pub enum NodeState {
     Resident,
     /// It is the node of a key, and its points are in its spill file.
     Spilled,
-    /// It is the node of a key whose spill file has not kept its points, or not given them back.
+    /// It is the node of a key whose spill file failed to keep its points, or to return them.
     Broken,
 }

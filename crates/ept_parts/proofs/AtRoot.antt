@@ -48,7 +48,7 @@ module _ (rules : Rules) (octants : Octants) where
     beats-octant q p e =
         octant_at-same_cell rules.cube 0 0 (place q) (place p) cube.span_low (omega arith) (beats-cell rules 0 q p e)
 
-    -- so a point of the part loses among the part exactly if it loses among all
+    -- so a point of the part loses among the part if and only if it loses among all
     loses-part : (given : List Point) (p : Point) → mine p ≡ true → loses rules 0 (filter mine given) p ≡ loses rules 0 given p
     loses-part given p here =
         elim (either (loses rules 0 given p)) [
@@ -85,7 +85,7 @@ module _ (rules : Rules) (octants : Octants) where
 
     -- ---- what stays, and what is sent
 
-    -- of the part stay the points of the part that stay of all
+    -- the points that stay of the part are those of the part that stay of all
     pub kept-part : (given : List Point) → kept rules 0 none_open (filter mine given) ≡ filter mine (kept rules 0 none_open given)
     unfolding kept
     kept-part given =

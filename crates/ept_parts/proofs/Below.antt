@@ -78,7 +78,7 @@ module _ (rules : Rules) (octants : Octants) (points : List Point) (can : CanBeS
       ∙ ap (λ (xs : List Point). filter (mine rules octants) xs) (sym (given-root rules points)))
 
   module _ (o : ℕ) (low : o < 8) where
-    -- the key of the octant, or one whose parent is in the octant
+    -- the key of the octant, or a key whose parent is in the octant
     at_octant : (key : VoxelKey) → is_within (child root o) key ≡ true → key.depth ≡ 1 → child root o ≡ key
     at_octant key within top =
         is_within-level (child root o) key within (omega (arith, top, depth-child root o))

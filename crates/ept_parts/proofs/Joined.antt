@@ -75,7 +75,7 @@ module _ (rules : Rules) where
       let all : times (test p) (parts_with (octant rules 0 p) (octants ∷ parts)) ≡ times (test p) (cond here 1 0 + parts_with (octant rules 0 p) parts) = ap (λ (n : ℕ). times (test p) n) counted in
       omega (arith, rest, with, without, first, all)
 
-  -- where each octant is in one part, each point is in one
+  -- if each octant is in one part, each point is in one
   divided-once : (test : Point → Bool) (parts : List Octants) (points : List Point) → AreAllOctants parts → count_by test (divided parts points) ≡ count_by test points
   divided-once test parts [] all = none-divided test parts
   divided-once test parts (p ∷ points) all =

@@ -59,7 +59,7 @@ is-root key =
 -- ---- merged nodes
 
 module _ (rules : Rules) (parts : List Octants) (points : List Point) (nodes : List Tile) (can : CanBeSampled rules points) (all : AreAllOctants parts) (merged : AreMerged rules parts points nodes) where
-  -- a node of a part, but its root, is a node of all, with the same points
+  -- a node of a part, except its root, is a node of all, with the same points
   part-node : (octants : Octants) (node : Tile) → IsMember node (part_nodes rules octants points) → ¬ (node.key ≡ root) → (is_node rules points node.key ≡ true) × (node.points ≡ sampling rules points node.key)
   part-node octants node m lower =
       let part = part_of rules octants points in

@@ -23,8 +23,8 @@ part_nodes rules octants points = sampled rules (part_of rules octants points)
 abbrev pub IsOfPart : Rules → List Octants → List Point → Tile → Type 0
 IsOfPart rules parts points node = (octants : Octants) × IsMember octants parts × IsMember node (part_nodes rules octants points)
 
--- The keys ascend, and the root is one of them. The root has the points that the parts have there, in id order. Each other
--- node is one of a part, and each of a part is one of these.
+-- The keys ascend, and the root is one of them. The root has the points that the parts have there, in id order. Each
+-- other node is one of a part, and each of a part is one of these.
 pub record AreMerged (rules : Rules) (parts : List Octants) (points : List Point) (nodes : List Tile) : Type 0 where
   pub ascend : AreAscending (keys_in nodes)
   pub rooted : IsMember root (keys_in nodes)

@@ -37,7 +37,7 @@ use Rattle.ept_query.proofs.Laid.{IsLaid, size-at, planned-laid, laid-planned, t
 
 -- ---- lists
 
--- what is nothing where a test fails is all there where it holds
+-- items that fail a test and give nothing may be left out
 skip : {X Y : Type 0} (f : X → List Y) (test : X → Bool) (xs : List X) → ((x : X) → IsMember x xs → test x ≡ false → f x ≡ []) → flat_map f xs ≡ flat_map f (filter test xs)
 skip f test [] none = refl
 skip f test (x ∷ xs) none = by_test (test x) refl (skip f test xs (λ y m. none y (inr m)))
@@ -58,7 +58,7 @@ unfolding is_picked
 yes-picked picked key is =
     let found = member-any (λ k. same_key k key) picked is in subst (λ (k : VoxelKey). IsMember k picked) (same_key-true found.0 key found.2) found.1
 
--- what keys that are not picked have is nothing, so the picked ones have all
+-- keys that are not picked have nothing, so the picked keys have all
 collect : {X : Type 0} (f : VoxelKey → List X) (keys picked : List VoxelKey) → IsRising key_before keys → IsRising key_before picked → ((k : VoxelKey) → IsMember k picked → IsMember k keys) → ((k : VoxelKey) → IsMember k keys → ¬ IsMember k picked → f k ≡ []) → flat_map f keys ≡ flat_map f picked
 collect f keys picked up rise among none =
     let same : picked ≡ filter (is_picked picked) keys = same_rising key_before key_order picked (filter (is_picked picked) keys) rise (IsRising-filter key_before (is_picked picked) keys up) (λ k m. IsMember-kept (is_picked picked) k keys (picked-yes picked k m) (among k m)) (λ k m. yes-picked picked k (IsMember-filter (is_picked picked) k keys m).1) in
@@ -72,7 +72,7 @@ filter-none test (x ∷ xs) none = by_test (test x) refl (filter-none test xs (�
     by_test true is rest = absurd (none x (inl refl) is)
     by_test false is rest = rest
 
--- tiles of points are of no other points
+-- equal tiles have equal points
 pub tile-once : (one two : List Point) → tile one ≡ tile two → one ≡ two
 tile-once [] [] same = refl
 tile-once [] (q ∷ two) same = absurd (let size : 0 ≡ length (packed q ++ tile two) = ap (λ (w : List ℕ). length w) same in let long = length-append (packed q) (tile two) in let wide = length-packed q in omega (arith, size, long, wide))
@@ -183,7 +183,7 @@ module _ (kept : Kept) (points : List Point) (files : Files) (area : Box3) (firs
   pub parts-whole : (parts : List (List Point)) → AllZip (IsPart files area) tiles parts → points_of parts ≡ map (λ (row : Row). row.1) (asked_rows kept points area first last)
   parts-whole parts each = parts-rows tiles parts (λ n m. contains-IsMember n tiles m) each ∙ sym rows-planned
 
-  -- those of some first tiles are a front of them
+  -- the points of the first tiles are a prefix of all points
   pub parts-front : (front back : List Node) (parts : List (List Point)) → tiles ≡ front ++ back → AllZip (IsPart files area) front parts → (rest : List Point) × (map (λ (row : Row). row.1) (asked_rows kept points area first last) ≡ points_of parts ++ rest)
   parts-front front back parts split each = (
     flat_map rows-of-key (keys_of back),

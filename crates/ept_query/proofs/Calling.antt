@@ -1,4 +1,4 @@
--- The refusal that the files call for is one, and comes.
+-- The refusal that the files call for is unique, and is returned.
 use Rattle.std.proofs.Common.{◌≡◌, ◌∙◌, ℕ, List, refl, ap, inl, inr, ◌⊎◌, ⊎_elim, Option, Some, Result, Ok, Err, Ordering, Less, Equal, Greater}
 use Rattle.std.specs.Prelude.{IfOk, IfErr}
 use Rattle.std.specs.Ordering.{ordering_reverse}
@@ -78,7 +78,7 @@ module _ (area : Box3) (first last : ℕ) (files : Files) where
   of-plan SinkFault called = absurd called
   of-plan Memory called = absurd called
 
-  -- where there is a plan, nothing is called for but a tile
+  -- if there is a plan, only a refusal of a tile is called for
   pub plan-uncalled : (plan : Plan) → IsPlanFor area first last plan files → (error : QueryError) → CallsOfPlan area first last error files → ⊥
   plan-uncalled plan is NotComplete called = called is.done
   plan-uncalled plan is StoreFault called = called

@@ -58,7 +58,7 @@ module _ (read-back : FilesAreReadBack) (can-sample : PointsCanBeSampled) (kept 
       there-is (tile_file t) (IsMember-left (tile_file t) (map tile_file (sampled (rules_of kept) points)) (map hierarchy_file (hierarchy kept.step (nodes_of kept points)) ++ texts-of)
       (IsMember-map tile_file t (sampled (rules_of kept) points) (IsMember-map (tile_at (rules_of kept) points) key (node_keys (rules_of kept) points) (node_keys-IsMember (rules_of kept) points key can.cube can.inside node))))
 
-  -- the file of a node with one
+  -- the file of a node that has one
   file-at : VoxelKey → HierFile
   file-at top = file_of kept.step (nodes_of kept points) (top, size-at kept points top)
 

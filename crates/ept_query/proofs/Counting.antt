@@ -1,4 +1,4 @@
--- How many files the walk gets, and that it ends.
+-- How many files the walk reads, and that it ends.
 use Rattle.std.proofs.Common.{◌≡◌, ◌+◌, ◌-◌, ◌*◌, ◌^◌, ◌<◌, ◌≤◌, ◌∙◌, ◌⊎◌, inl, inr, ℕ, List, [], ◌∷◌, length, take, get_or, refl, sym, ap, subst, arith, Ordering, Less, Equal, Greater, true}
 use Rattle.std.specs.List.{All, Contains}
 use Rattle.std.specs.Ordering.{is_eq, eq_by_cmp}
@@ -20,14 +20,14 @@ same-from one two same = key_cmp-equal one two (tied (key_cmp one two) same)
     tied Equal h = refl
     tied Greater h = cc
 
--- keys that ascend, each of which is one of others, are no more than those
+-- keys that ascend, all of them in a list, are no more than the list has
 pub fewer : (keys most : List VoxelKey) → AreAscending keys → ((key : VoxelKey) → Contains keys key → Contains most key) → length keys ≤ length most
 fewer keys most ascend each =
     length-le_from_is_member (eq_by_cmp_equiv key_cmp_total) keys most
     (IsDistinct-from_apart (eq_by_cmp key_cmp) keys (λ i j d less within. ap is_eq (ascend i j d less within)))
     (λ q member. list_any-from_Contains (eq_by_cmp_equiv key_cmp_total) q most (each q (Contains-from_any same-from q keys member)))
 
--- so are those of them up to one of them
+-- the keys up to one of them are no more than the list has up to that key
 module _ (keys most : List VoxelKey) (number : ℕ) (ascend : AreAscending keys) (within : number < length keys) where
   front-size : length (take (number + 1) keys) ≡ number + 1
   front-size = length-take-le (number + 1) keys (omega (arith, within))
@@ -43,7 +43,7 @@ module _ (keys most : List VoxelKey) (number : ℕ) (ascend : AreAscending keys)
       ∙ ap (λ (k : VoxelKey). key_cmp (get_or keys i d) k) two
       ∙ ascend i j d less (omega (arith, inside, front-size, within))
 
-  -- each of them is that one or comes before it
+  -- each of them is that key or comes before it
   front-to : (i : ℕ) (key : VoxelKey) → i < number + 1 → get_or keys i key ≡ key → (key ≡ get_or keys number root) ⊎ (key_cmp key (get_or keys number root) ≡ Less)
   front-to i key inside is = either (below-or-at i number (omega (arith, inside)))
     where
@@ -69,7 +69,7 @@ module _ (keys most : List VoxelKey) (number : ℕ) (ascend : AreAscending keys)
 pub rank : VoxelKey → ℕ
 rank key = key.depth * 2 ^ 96 + key.x * 2 ^ 64 + key.y * 2 ^ 32 + key.z
 
--- how many keys stand behind the first of some, and it
+-- how many keys there are from the first key of a list on
 pub left : List VoxelKey → ℕ
 left [] = 0
 left (key ∷ keys) = 2 ^ 128 - rank key

@@ -32,13 +32,13 @@ form-permutation search top xs ys same form = record {
   each = All-permutation (IsEntryIn search top) xs ys same form.each;
 }
 
--- so bytes that are read as entries that are not of the form have no reading that is
+-- so if bytes are read as malformed entries, they have no well-formed reading
 pub unformed : (search : Search) (top : VoxelKey) (bytes : List ℕ) (found entries : List Entry) → IsReading bytes found → ¬ AreOf search top found → IsReading bytes entries → ¬ AreOf search top entries
 unformed search top bytes found entries one wrong two = λ form. wrong (form-permutation search top entries found (readings-permute bytes entries found two one) form)
 
 -- ---- why a hierarchy file is refused
 
--- no reading of the bytes is of the form
+-- no reading of the bytes is well-formed
 abbrev pub IsUnformed : Search → VoxelKey → List ℕ → Type 0
 IsUnformed search top bytes = (entries : List Entry) → IsReading bytes entries → ¬ AreOf search top entries
 
@@ -59,7 +59,7 @@ pub refuses-reading : {T : Type 0} (file : QueryFile) (damaged : Type 0) (wholly
 refuses-reading file damaged wholly files (Ok done) told refused = tt
 refuses-reading file damaged wholly files (Err error) told refused = by_error file damaged wholly files error told refused
 
--- a file whose bytes have no reading of the form is no hierarchy file of the key
+-- a file whose bytes have no well-formed reading is no hierarchy file of the key
 pub no-hierarchy : (search : Search) (top : VoxelKey) (name bytes : List ℕ) (files : Option Files) → name ≡ hierarchy_name top → Tells (λ all. all name ≡ Some bytes) files → IsUnformed search top bytes → Tells (λ all. HasNoHierarchy search all top) files
 no-hierarchy search top name bytes None named there unformed = tt
 no-hierarchy search top name bytes (Some all) named there unformed = λ entries has.

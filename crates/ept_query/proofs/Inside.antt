@@ -36,7 +36,7 @@ pub yes-is_in : (area : Box3) (at : Place) → IsIn area at → is_in area at �
 unfolding is_in
 yes-is_in area at is = and_from _ _ (and_from _ _ (yes-between _ _ _ is.x) (yes-between _ _ _ is.y)) (yes-between _ _ _ is.z)
 
--- a test that holds of a place exactly where it lies in the box is that test
+-- a test that holds of a place if and only if it lies in the box is this test
 pub same-test : (area : Box3) (at : Place) (found : Bool) → IsTrue found ↔ IsIn area at → found ≡ is_in area at
 same-test area at true says = sym (yes-is_in area at (says.0 refl))
 same-test area at false says = by_test (is_in area at) refl

@@ -87,7 +87,7 @@ depth-above : (n : ℕ) (key : VoxelKey) → (ancestor n key).depth ≡ key.dept
 unfolding ancestor
 depth-above n key = refl
 
--- a key stands in a file of a key that it is within, not deeper than the file goes
+-- a key is in the file of a key that it is within, if it is no deeper than the file reaches
 stands-from : (step : ℕ) (top key : VoxelKey) → is_within top key ≡ true → (step ≡ 0) ⊎ (key.depth ≤ top.depth + step) → stands_in step top key ≡ true
 unfolding stands_in
 stands-from step top key within near = ap (λ (t : Bool). t && ((step == 0) || nat_le key.depth (top.depth + step))) within ∙ (⊎_elim (λ (none : step ≡ 0). (let t = none in grind (arith, nat_tests))) (λ (close : key.depth ≤ top.depth + step). (let t = close in grind (arith, nat_tests))) near)
@@ -143,7 +143,7 @@ number-link step top n link = ap (λ (b : Bool). let e : Entry = (n.0, if b then
 number-count : (step : ℕ) (top : VoxelKey) (n : Node) → is_link step top n.0 ≡ false → entry_in step top n ≡ (n.0, pos n.1)
 number-count step top n link = ap (λ (b : Bool). let e : Entry = (n.0, if b then negsuc 0 else pos n.1) in e) link
 
--- what an entry tells
+-- the number of an entry, for a link and for a node with a count
 told-of : (step : ℕ) (top : VoxelKey) (n : Node) (b : Bool) → is_link step top n.0 ≡ b → ((entry_in step top n).1 ≡ negsuc 0) ↔ (b ≡ true)
 told-of step top n true is = ((λ _. refl), (λ _. ap (λ (e : Entry). e.1) (number-link step top n is)))
 told-of step top n false is = (

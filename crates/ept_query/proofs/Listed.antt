@@ -1,4 +1,5 @@
--- All nodes of a folder: they are of one list, the root is there, and those of a complete folder are the sampling's.
+-- All nodes of a folder: there is one list of them, the root is there, and those of a complete folder are the
+-- sampling's.
 use Rattle.std.proofs.Common.{◌≡◌, ◌≢◌, ◌∙◌, ◌-◌, ◌*◌, ◌^◌, ◌<◌, ◌≤◌, ℕ, zero, suc, ℤ, pos, negsuc, ◌+ℤ◌, List, [], ◌∷◌, length, get_or, map, refl, sym, ap, subst, inl, inr, arith, Option, Some, None, Result, Ok, Err, Bool, true, false}
 use Rattle.std.specs.Prelude.{IfOk, IfErr, FitsSigned, if◌then◌else◌}
 use Rattle.std.specs.Int.Signed.{lt_z}
@@ -55,7 +56,7 @@ use Rattle.ept_query.proofs.CompletePlans.{node_before, plans-whole, has-tiles}
 
 -- ---- wherever a node lies
 
--- a box of an axis has its least coordinate, which is of 64 bits
+-- a box has a least coordinate on an axis, which is of 64 bits
 axis-met : (corner : ℤ) (index depth e : ℕ) → FitsSigned w32 corner → index < 2 ^ depth → depth ≤ e → e ≤ 32 → IsFrom (corner +ℤ pos (index * 2 ^ (e - depth))) (2 ^ (e - depth)) (corner +ℤ pos (index * 2 ^ (e - depth))) × IsBetween (coordinate EVERYWHERE.min 0) (coordinate EVERYWHERE.max 0) (corner +ℤ pos (index * 2 ^ (e - depth)))
 axis-met corner index depth e fits within deep small =
     let some = pow_pos (e - depth) in
@@ -164,7 +165,7 @@ nodes-octree files rules nodes has =
           ))),
     )
 
--- ---- what the folder tells
+-- ---- what the folder states
 
 pub plan-not-called : PlanIsUncalled
 plan-not-called files nodes is error = plan-uncalled EVERYWHERE 0 32 files (record { area = EVERYWHERE; tiles = nodes }) is error

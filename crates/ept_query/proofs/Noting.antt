@@ -131,7 +131,7 @@ some-after : (b : Bool) (count : ℕ) (was now : Option ℕ) → now ≡ cond b 
 some-after true count was now is has = subst IsSome (sym is) refl
 some-after false count was now is has = subst IsSome (sym is) has
 
--- what is counted of a key, after one was put
+-- what is counted of a key, after a count was put
 put-cases : (b : Bool) (count n : ℕ) (was now : Option ℕ) → now ≡ cond b (Some count) was → now ≡ Some n → (was ≡ Some n) ⊎ ((b ≡ true) × (count ≡ n))
 put-cases true count n was now is at = inr (refl, some-is (sym is ∙ at))
 put-cases false count n was now is at = inl (sym is ∙ at)

@@ -13,7 +13,7 @@ use Rattle.ept_query.specs.Parts.{Plan}
 use Rattle.ept_query.specs.Planning.{IsPlanFor}
 use Rattle.ept_query.proofs.Counting.{fewer}
 
--- no more than any list has that has their keys
+-- no more than any list that has their keys
 pub plan-size : (area : Box3) (first last : ℕ) (plan : Plan) (files : Files) → IsPlanFor area first last plan files → (planned : List VoxelKey) → ((kept : Kept) → IsBuiltWith files kept → HasPlanned (search_of kept area first last) files planned) → length plan.tiles ≤ length planned
 plan-size area first last plan files is planned others =
     let kept : Kept = is.build.0 in

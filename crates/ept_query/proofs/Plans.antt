@@ -1,4 +1,4 @@
--- What the walk answers.
+-- What the walk returns.
 use Rattle.std.proofs.Common.{◌≡◌, ◌∙◌, ◌+◌, ◌<◌, ◌≤◌, ℕ, List, [], ◌∷◌, length, refl, sym, ap, subst, Option, Some, Result, Ok, Err, arith}
 use Rattle.std.specs.Prelude.{IfOk, IsSome}
 use Rattle.std.specs.List.{All, Contains}

@@ -50,7 +50,7 @@ front-back sift plan before now old new same w = record { front = w.front; back 
 before-back : (sift : Option Sift) (plan : Plan) (key : VoxelKey) (before now : Option (List ℕ)) (old new : Files) → SameFiles old new → WritesBefore sift plan key before now new → WritesBefore sift plan key before now old
 before-back sift plan key before now old new same w = record { front = w.front; count = w.count; back = w.back; split = w.split; damaged = none-back (key, w.count) old new same w.damaged; parts = w.parts; read = parts-back plan.area w.front w.parts old new same w.read; written = w.written }
 
--- ---- where there is no plan
+-- ---- if there is no plan
 
 pub plan-query : (area : Box3) (first last : ℕ) (files : Option Files) (error : QueryError) → RefusesPlan area first last files error → RefusesQuery area first last files error
 plan-query area first last files NotComplete refused = refused
@@ -92,7 +92,7 @@ there-tile files area (x ∷ nodes) [] n each m = absurd each
 there-tile files area (x ∷ nodes) (p ∷ parts) n each (inl is) = (each.0.points, subst (λ (y : Node). HasTile files y.0 y.1 each.0.points) is each.0.has)
 there-tile files area (x ∷ nodes) (p ∷ parts) n each (inr m) = there-tile files area nodes parts n each.1 m
 
--- of keys that rise, those before one that stand in the list stand before it there
+-- if keys rise, the keys of the list before a key are in the list before that key's place
 stands-first : (front back : List Node) (node other : Node) → IsRising key_before (keys_of (front ++ node ∷ back)) → IsMember other (front ++ node ∷ back) → IsBefore other.0 node.0 → IsMember other front
 stands-first [] back node other rise (inl is) less =
     (let below : key_cmp other.0 node.0 ≡ Less = key_cmp-before other.0 node.0 less in

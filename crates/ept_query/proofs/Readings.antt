@@ -1,4 +1,4 @@
--- What a hierarchy file is read as: its bytes alone decide which number it has of a key.
+-- What a hierarchy file is read as: its bytes alone determine the number that it has of a key.
 use Rattle.std.proofs.Common.{◌≡◌, ◌≢◌, ◌∙◌, ℕ, suc, zero, ◌<◌, ℤ, List, [], ◌∷◌, ◌++◌, length, get_or, refl, sym, ap, subst, inl, inr, arith, Option, Some, None, Ordering, Less, Equal, Greater, Bool, true, false}
 use Rattle.std.specs.Prelude.{pos}
 use Rattle.std.specs.Prelude.{if◌then◌else◌}
@@ -28,9 +28,9 @@ use Rattle.ept_hier.specs.Reading.{Member, member_list, members_in, IsEntryOf, I
 use Rattle.ept_hier.specs.declared.hier_error.HierError.{HierError}
 use Rattle.ept_hier.specs.declared.hier_error.HierError.TheVariants.{Json, Key, Count, Memory}
 
--- ---- the names of an object ascend, so that none stands twice
+-- ---- the names of an object ascend, so each is there once
 
--- a name stands before all of these
+-- a name is before all of these
 Above : List ℕ → Members → Type 0
 Above k no_members = Unit {0}
 Above k (member l d ms) = (slice_cmp nat_cmp k l ≡ Less) × Above k ms
@@ -140,7 +140,7 @@ members-ascend bytes members is =
     let value = then-is as_object (document bytes) found.0 found.1 in
     subst NamesAscend found.2 (names-ascend found.0 (rising-document bytes value.0 found.0 value.1 value.2))
 
--- ---- members say one list of entries
+-- ---- members mean one list of entries
 
 entry-once : (m : Member) (a b : Entry) → IsEntryOf m a → IsEntryOf m b → a ≡ b
 entry-once m a b x y =
@@ -196,7 +196,7 @@ same-name members said i j a b ascend each less within at_i at_j same =
     let wrong : Less ≡ Equal = sym below ∙ (ap (λ (name : List ℕ). slice_cmp nat_cmp name (get_or members j none).0) named ∙ tied) in
     cc
 
--- the entries of one key are one
+-- the entries of one key are the same
 pub one-entry : (bytes : List ℕ) (entries : List Entry) (a b : Entry) → IsReading bytes entries → Contains entries a → Contains entries b → a.0 ≡ b.0 → a ≡ b
 one-entry bytes entries a b reading has_a has_b same =
     let in_a : Contains reading.said a = Contains-permutation entries reading.said a (IsPermutation-sym reading.said entries reading.same) has_a in
@@ -226,7 +226,7 @@ each-key bytes entries reading =
 
 -- ---- what is refused has no reading
 
--- of members that say entries each says one
+-- of members that mean entries, each means an entry
 one-said : (members : List Member) (said : List Entry) (m : Member) (k : ℕ) → AllZip IsEntryOf members said → k < length members → get_or members k m ≡ m → (e : Entry) × IsEntryOf m e
 one-said members said m k each within at =
     let none : Entry = (record { depth = 0; x = 0; y = 0; z = 0 }, pos 0) in

@@ -1,4 +1,4 @@
--- From what the calls of a query tell of the files that they read to what is so of those at the start.
+-- From what the calls of a query say of the files that they read to what is so of the files at the start.
 use Rattle.std.proofs.Common.{◌≡◌, ◌≢◌, ◌∙◌, ◌+◌, ◌≤◌, ℕ, List, length, refl, sym, ap, subst, inl, inr, arith, Option, Some, Result, Ok, Err}
 use Rattle.std.specs.Prelude.{◌↔◌, IfOk, IsTrue, Bool, true, false}
 use Rattle.ept_base.specs.Files.{Files, SameFiles, StepsBy, Tells}
@@ -170,6 +170,6 @@ module _ (area : Box3) (first last : ℕ) (search : Search) (before now : Option
       keys-now : (needed : List VoxelKey) → Tells (λ all. HasNeeded search all needed → new ≤ mid + length needed) now
       keys-now needed = tells-from (λ all. HasNeeded search all needed → new ≤ mid + length needed) now (λ all is. told (λ (f : Files). (keys : List VoxelKey) → HasNeeded search f keys → new ≤ mid + length keys) now all is few needed)
 
--- where nothing was looked for
+-- if nothing was looked for
 pub gets-start : (area : Box3) (first last : ℕ) (files : Option Files) (old new : ℕ) → new ≤ old + 2 → Tells (GetsFiles area first last old new) files
 gets-start area first last files old new two = tells-from (GetsFiles area first last old new) files (λ all is needed each. omega (arith, two))

@@ -1,4 +1,5 @@
--- Runs of packed points: the points in an area are copied from the bytes of a tile, as many at once as stand one after another.
+-- Runs of packed points. The points in an area are copied from the bytes of a tile, a whole run of neighbours at a
+-- time.
 use Rattle.std.proofs.Common.{◌≡◌, ◌∙◌, ◌+◌, ◌-◌, ◌*◌, ◌<◌, ◌≤◌, ℕ, zero, suc, List, [], ◌∷◌, ◌++◌, length, get_or, take, drop, Bool, true, false, cond, refl, sym, ap, arith, append-nil, append_assoc, length-take-le, length-drop}
 use Rattle.std.proofs.lemmas.List.{take_at, drop_at, take_all, take_more, take-append-drop, get_or_past, length_push}
 use Rattle.std.proofs.lemmas.List.Concat.{flat_map-append}
@@ -17,7 +18,7 @@ abbrev pub between : List Point → ℕ → ℕ → List Point
 between points start end = take (end - start) (drop start points)
 
 module _ (tiles : EachTileHasLength) where
-  -- their bytes stand at their places in the bytes of the tile
+  -- their bytes are at their places in the bytes of the tile
   pub bytes-between : (bytes : List ℕ) (points : List Point) (start end : ℕ) → bytes ≡ tile points → start ≤ end → end ≤ length points → take (end * packed_width - start * packed_width) (drop (start * packed_width) bytes) ≡ tile (between points start end)
   bytes-between bytes points start end is order within =
       let before = take start points in
@@ -36,7 +37,7 @@ module _ (tiles : EachTileHasLength) where
   pub length-bytes : (bytes : List ℕ) (points : List Point) → bytes ≡ tile points → length bytes ≡ length points * packed_width
   length-bytes bytes points is = omega (arith, ap length is, tiles New points)
 
--- Of the points before `at` those in the area were copied, but for the run from `start` on, of which each is in the area.
+-- The points before `at` in the area were copied, except the run from `start` on. Each point of the run is in the area.
 pub record HasCopied (area : Box3) (points : List Point) (old now : List ℕ) (start at count : ℕ) : Type 0 where
   pub order : start ≤ at
   pub within : at ≤ length points
@@ -57,7 +58,7 @@ module _ (area : Box3) (points : List Point) (old now : List ℕ) (start at coun
       ∙ ap (λ (q : Point). points_in area (take at points) ++ cond (is_inside area q) (q ∷ []) []) is_p
       ∙ ap (λ (b : Bool). points_in area (take at points) ++ cond b (p ∷ []) []) e
 
-  -- the run goes on
+  -- the run continues
   pub copied-on : is_inside area p ≡ true → HasCopied area points old now start (at + 1) (count + 1)
   copied-on e =
       let order = h.order in

@@ -1,4 +1,4 @@
--- Why bytes are no tile of so many points.
+-- Why bytes are no tile of `count` points.
 use Rattle.std.proofs.Common.{◌≡◌, ◌≢◌, ◌∙◌, ℕ, List, [], ◌++◌, length, refl, sym, ap, subst, Result, Ok, Err}
 use Rattle.ept_point.specs.declared.point.Point.{Point}
 use Rattle.ept_point.specs.declared.tile.TileError.{TileError}
@@ -11,7 +11,7 @@ use Rattle.ept_query.specs.declared.query_error.QueryFile.{QueryFile}
 use Rattle.ept_query.specs.Causes.{of_tile}
 use Rattle.ept_query.specs.Damage.{IsTileOf, RefusesBytes}
 
--- the bytes are a tile of no so many points
+-- the bytes are no tile of `count` points
 abbrev pub IsNoTile : List ℕ → ℕ → Type 0
 IsNoTile bytes count = (points : List Point) → ¬ IsTileOf bytes count points
 

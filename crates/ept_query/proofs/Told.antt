@@ -1,4 +1,4 @@
--- Facts on what a store holds, from call to call that change nothing.
+-- Facts about what a store holds, from call to call that change nothing.
 use Rattle.std.proofs.Common.{◌≡◌, ◌∙◌, inl, ℕ, refl, subst, Option, Some, None, arith}
 use Rattle.ept_base.specs.Files.{Files, SameFiles, StepsBy, Tells}
 use Rattle.ept_base.specs.Moves.{Moves}

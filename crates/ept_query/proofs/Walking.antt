@@ -1,4 +1,4 @@
--- The walk over the hierarchy files, in key order: which were got, which are still to be got, and the counts found so far.
+-- The walk over the hierarchy files, in key order: which were read, which are still to be read, and the counts so far.
 use Rattle.std.proofs.Common.{◌≡◌, ◌∙◌, ◌+◌, ◌*◌, ◌<◌, ◌≤◌, ℕ, suc, List, [], ◌∷◌, ◌++◌, get_or, refl, sym, ap, subst, inl, inr, ◌⊎◌, ⊎_elim, arith, Option, Some, None, Less, Equal, Greater, Bool, true, false, ◌&&◌}
 use Rattle.std.specs.Prelude.{pos, negsuc, IsSome, nat_lt, ◌==◌, nat_le, ◌||◌}
 use Rattle.std.specs.List.{All, Contains}
@@ -57,7 +57,7 @@ module _ (search : Search) (top : VoxelKey) (entries : List Entry) (form : AreOf
   each-in : (e : Entry) → Contains entries e → IsEntryIn search top e
   each-in e has = All-contains (IsEntryIn search top) entries e form.each has
 
-  -- a link stands behind the key of its file
+  -- a link is after the key of its file
   pub link-after : (key : VoxelKey) → Contains entries (key, negsuc 0) → key_cmp top key ≡ Less
   link-after key has =
       let deeper = link-deeper search.step top key ((each-in (key, negsuc 0) has).link.0 refl) in
@@ -87,13 +87,13 @@ hierarchy-same search files top one two e x y has =
     let bytes : y.bytes ≡ x.bytes = some-is (sym y.there ∙ x.there) in
     readings-same x.bytes one two e x.reading (subst (λ (b : List ℕ). IsReading b two) bytes y.reading) has
 
--- the keys that are noted of a file stand behind its own, if the others do
+-- the keys that are noted of a file are after its own, if the others are
 pub links-behind : (search : Search) (top : VoxelKey) (entries : List Entry) (old new : List VoxelKey) → AreOf search top entries → NotesLinks search entries old new → All (λ (k : VoxelKey). key_cmp top k ≡ Less) old → All (λ (k : VoxelKey). key_cmp top k ≡ Less) new
 links-behind search top entries old new form links above = λ k d within.
     let key : VoxelKey = get_or new k d in
     ⊎_elim (λ (was : Contains old key). All-contains (λ (q : VoxelKey). key_cmp top q ≡ Less) old key above was) (λ (link : Contains entries (key, negsuc 0) × MeetsArea search key). link-after search top entries form key link.0) (links.only key (Contains-get_or new k d within))
 
--- ---- where files stand: so many steps deep
+-- ---- where files are: a number of steps deep
 
 level-once : (m n step depth : ℕ) → m * step ≤ depth → depth < m * step + step → n * step ≤ depth → depth < n * step + step → m ≡ n
 level-once m n step depth a b c d =
@@ -153,14 +153,15 @@ module _ (search : Search) (files : Files) where
 
 -- ---- the walk
 
--- what a file that was got has told: its links were got or are still to be got, and its counts are found
+-- What was noted of a file that was read. Its links were followed or are still to be followed, and its counts are
+-- found.
 pub record IsRead (search : Search) (files : Files) (taken pending : List VoxelKey) (counts : VoxelKey → Option ℕ) (top : VoxelKey) : Type 0 where
   pub entries : List Entry
   pub file : HasHierarchy search files top entries
   pub links : (key : VoxelKey) → Contains entries (key, negsuc 0) → MeetsArea search key → Contains taken key ⊎ Contains pending key
   pub tiles : (key : VoxelKey) (count : ℕ) → Contains entries (key, pos count) → HasDepth search key → MeetsArea search key → IsSome (counts key)
 
--- the keys whose files were got stand before those still to be got, and all of them are needed
+-- the keys whose files were read are before those still to be read, and all of them are needed
 pub record IsWalk (search : Search) (files : Files) (taken pending : List VoxelKey) (counts : VoxelKey → Option ℕ) : Type 0 where
   pub ascend : AreAscending taken
   pub before : (one two : VoxelKey) → Contains taken one → Contains pending two → key_cmp one two ≡ Less
@@ -205,7 +206,7 @@ module _ (search : Search) (files : Files) where
     taken-needed key has =
         ⊎_elim (λ (was : Contains taken key). walk.needed key was) (λ (same : top ≡ key). subst (λ (k : VoxelKey). IsNeeded search files k) same (walk.waiting top first)) (Contains-push_cases taken top key has)
 
-    -- one more file was got
+    -- one more file was read
     pub walk-more : (next : List VoxelKey) (entries : List Entry) (found : VoxelKey → Option ℕ) → HasHierarchy search files top entries → NotesLinks search entries rest next → NotesTiles search entries counts found → IsWalk search files (taken ++ top ∷ []) next found
     walk-more next entries found file links tiles = record {
       ascend = taken-ascend;
@@ -247,7 +248,7 @@ module _ (search : Search) (files : Files) where
         planned-new : (key : VoxelKey) (count : ℕ) → Contains entries (key, pos count) → HasDepth search key → MeetsArea search key → IsPlanned search files key count
         planned-new key count has depth meets = record { top = top; needed = walk.waiting top first; entries = entries; file = file; counted = has; has_depth = depth; meets = meets }
 
-    -- what is needed and stands before the next file was got
+    -- what is needed and is before the next file was read
     not-before : (key : VoxelKey) → IsBefore key top → ¬ Contains pending key
     not-before key less = λ has.
         let below : key_cmp key top ≡ Less = key_cmp-before key top less in
@@ -267,7 +268,7 @@ module _ (search : Search) (files : Files) where
         let got = walk.read upper (taken-below upper needed chain) in
         ⊎_elim (λ was. was) (λ later. absurd (not-before key' less later)) (got.links key' (hierarchy-same search files upper entries got.entries (key', negsuc 0) file got.file has) meets)
 
-    -- so a damaged file is the first of those
+    -- so a damaged file is the first damaged one of those needed
     pub walk-first : HasNoHierarchy search files top → IsFirstHierarchy search files top
     walk-first damaged = record {
       needed = walk.waiting top (is-first top pending rest is);
@@ -279,7 +280,7 @@ module _ (search : Search) (files : Files) where
     nothing : (key : VoxelKey) → ¬ Contains pending key
     nothing key = λ has. IsMember-contains key [] (subst (λ (w : List VoxelKey). Contains w key) none has)
 
-    -- at the end each needed file was got
+    -- at the end each needed file was read
     pub all-taken : (key : VoxelKey) → IsNeeded search files key → Contains taken key
     all-taken key (at_root meets) = ⊎_elim (λ has. has) (λ has. absurd (nothing root has)) (walk.start meets)
     all-taken key (behind upper key' entries needed file has meets) =

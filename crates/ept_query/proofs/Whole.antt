@@ -1,4 +1,4 @@
--- What a query gives of a folder with the whole output of some points.
+-- What a query returns from a folder with the whole output of some points.
 use Rattle.std.proofs.Common.{◌≡◌, ◌∙◌, ◌+◌, ◌^◌, ◌<◌, ◌≤◌, ℕ, List, [], ◌∷◌, ◌++◌, length, map, refl, sym, ap, subst, inl, inr, ◌⊎◌, ⊎_elim, arith, Option, Some, None, Result, Ok, Err, length-append}
 use Rattle.std.specs.Prelude.{IfOk, IfErr}
 use Rattle.std.specs.List.{AllZip, flat_map}
@@ -44,7 +44,7 @@ use Rattle.ept_query.proofs.Written.{kept-append}
 use Rattle.ept_query.proofs.FewPoints.{few-of-inputs, length-filter_le}
 use Rattle.ept_query.proofs.Completing.{output-laid}
 
--- ---- fronts of bytes
+-- ---- prefixes of bytes
 
 prefix-none : (old : Option (List ℕ)) (bytes : List ℕ) → AppendsPrefix old old bytes
 prefix-none old bytes = (0, omega arith, appends_none old)
@@ -113,7 +113,7 @@ module _ (read-back : FilesAreReadBack) (can-sample : PointsCanBeSampled) (kept 
   plan-whole files is (Ok plan) made refused = (plan-tiles plan.tiles ((told (IsPlanFor area first last plan) files all is made).tiles kept laid.built), tt)
   plan-whole files is (Err error) made refused = (tt, of-store files error refused (by-device files is error (plan-query area first last files error refused)))
 
-  -- ---- the answer
+  -- ---- the result
 
   few : length (asked_rows kept points area first last) < 2 ^ 63
   few =

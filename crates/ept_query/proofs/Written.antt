@@ -27,7 +27,7 @@ use Rattle.ept_query.specs.Kept.{kept_bytes, kept_count}
 use Rattle.ept_query.specs.Writing.{WritesTile, WritesSome, LeavesTile, WritesAll, WritesFront, WritesBefore, LeavesTiles}
 use Rattle.ept_query.proofs.Told.{tells-from, told, told-back}
 
--- these tiles were read, and what is kept of their parts appended, and of so many points
+-- these tiles were read, what is kept of their parts was appended, and `count` is how many points that is
 pub record AreWritten (sift : Option Sift) (files : Files) (area : Box3) (nodes : List Node) (old new : Option (List ℕ)) (count : ℕ) : Type 0 where
   pub parts : List (List Point)
   pub read : AllZip (IsPart files area) nodes parts

@@ -1,4 +1,4 @@
--- What a query or a selection answers, and what it leaves where it is refused. The folder may hold anything.
+-- What a query or a selection returns, and what it leaves if it is refused. The folder may hold anything.
 use Rattle.std.specs.Prelude.{◌≡◌, ◌⊎◌, ℕ, List, Option, None}
 use Rattle.ept_base.specs.Files.{Files, Tells}
 use Rattle.ept_space.specs.declared.box3.Box3.{Box3}
@@ -11,21 +11,21 @@ use Rattle.ept_query.specs.Parts.{Plan}
 use Rattle.ept_query.specs.Planning.{IsPlanFor}
 use Rattle.ept_query.specs.Writing.{WritesAll, WritesFront, WritesBefore}
 
--- what is kept of the parts of all tiles of the plan was appended, and of so many points
+-- what is kept of the parts of all tiles of the plan was appended, and `count` is how many points that is
 pub record Selects (sift : Option Sift) (area : Box3) (first last : ℕ) (old new : Option (List ℕ)) (count : ℕ) (files : Files) : Type 0 where
   pub plan : Plan
   pub is_plan : IsPlanFor area first last plan files
   pub area_is : plan.area ≡ area
   pub writes : WritesAll sift plan old new count files
 
--- a front of what is kept of some first tiles of the plan was appended
+-- a prefix of what is kept of the first tiles of the plan was appended
 pub record Stops (sift : Option Sift) (area : Box3) (first last : ℕ) (old new : Option (List ℕ)) (files : Files) : Type 0 where
   pub plan : Plan
   pub is_plan : IsPlanFor area first last plan files
   pub area_is : plan.area ≡ area
   pub writes : WritesFront sift plan old new files
 
--- what is kept of the tiles of the plan before that of a key was appended
+-- what is kept of the tiles of the plan before the tile of this key was appended
 pub record StopsAt (sift : Option Sift) (area : Box3) (first last : ℕ) (key : VoxelKey) (old new : Option (List ℕ)) (files : Files) : Type 0 where
   pub plan : Plan
   pub is_plan : IsPlanFor area first last plan files
@@ -44,7 +44,7 @@ LeavesSelection sift area first last files old new Memory = (new ≡ old) ⊎ Te
 
 -- ---- a query, which keeps all
 
--- the parts of all tiles of the plan were appended, which have so many points
+-- the parts of all tiles of the plan were appended, and `count` is how many points they have
 abbrev pub Answers : Box3 → ℕ → ℕ → Option (List ℕ) → Option (List ℕ) → ℕ → Files → Type 0
 Answers area first last old new count files = Selects None area first last old new count files
 

@@ -1,4 +1,4 @@
--- What the refusals of the layers below are told as.
+-- The refusal of a query for each refusal of the layers below.
 use Rattle.std.specs.Prelude.{◌≡◌, ◌⊎◌}
 use Rattle.ept_base.specs.declared.errors.GetError.{GetError}
 use Rattle.ept_base.specs.declared.errors.GetError.TheVariants as get
@@ -21,21 +21,21 @@ of_get get.Memory = Memory
 abbrev pub IsStores : QueryError → Type 0
 IsStores e = (e ≡ StoreFault) ⊎ (e ≡ Memory)
 
--- of the bytes of a hierarchy file
+-- a refusal of the bytes of a hierarchy file
 abbrev pub of_hierarchy : QueryFile → HierError → QueryError
 of_hierarchy file hier.Json = Damaged file
 of_hierarchy file hier.Key = Damaged file
 of_hierarchy file hier.Count = Damaged file
 of_hierarchy file hier.Memory = Memory
 
--- of the bytes of a tile
+-- a refusal of the bytes of a tile
 abbrev pub of_tile : QueryFile → TileError → QueryError
 of_tile file tile.Length = Damaged file
 of_tile file (tile.Field at) = Damaged file
 of_tile file (tile.Order at) = Damaged file
 of_tile file tile.Memory = Memory
 
--- of the bytes of the build file
+-- a refusal of the bytes of the build file
 abbrev pub of_build : MetaError → QueryError
 of_build meta.Form = Damaged BuildJson
 of_build meta.Memory = Memory

@@ -1,4 +1,4 @@
--- What holds of every folder that is complete for some points. Each statement stands on the contract of a function of
+-- What holds of every folder that is complete for some points. Each statement is in the contract of a function of
 -- `laws`.
 use Rattle.std.specs.Prelude.{◌≡◌, ℕ, List, Contains, map}
 use Rattle.std.specs.List.{AllZip}
@@ -22,7 +22,7 @@ abbrev pub CompleteHasPlan : Type 0
 CompleteHasPlan =
     (kept : Kept) (points : List Point) (files : Files) → IsComplete kept points files → (area : Box3) (first last : ℕ) → (nodes : List Node) × IsPlanFor area first last (record { area = area; tiles = nodes }) files
 
--- each tile of a plan is there, with the points that the sampling gives its node
+-- each tile of a plan is there, with the points that the sampling puts into its node
 abbrev pub CompleteHasTiles : Type 0
 CompleteHasTiles =
     (kept : Kept) (points : List Point) (files : Files) → IsComplete kept points files → (area : Box3) (first last : ℕ) (plan : Plan) → IsPlanFor area first last plan files → (node : Node) → Contains plan.tiles node → HasTile files node.0 node.1 (sampling (rules_of kept) points node.0)

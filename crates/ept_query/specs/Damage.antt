@@ -20,33 +20,33 @@ use Rattle.ept_query.specs.Plan.{IsBuiltWith, HasBuild, IsNeeded, EachIsThere, I
 
 -- ---- which file is damaged
 
--- the build file is absent, or tells of nothing that an output depends on
+-- the build file is missing, or is not the build text of any settings that an output depends on
 abbrev pub HasNoBuild : Files → Type 0
 HasNoBuild files = (kept : Kept) → ¬ IsBuiltWith files kept
 
--- bytes are a tile of these points, as many as counted
+-- bytes are a tile of these points, and the number of points is the count
 pub record IsTileOf (bytes : List ℕ) (count : ℕ) (points : List Point) : Type 0 where
   pub packed : bytes ≡ tile points
   pub ascend : IsAscending points
   pub counted : length points ≡ count
 
--- the tile of a key is there: these points, as many as its hierarchy file counts
+-- the tile of a key is there: it has these points, and their number is the count of its hierarchy file
 pub record HasTile (files : Files) (key : VoxelKey) (count : ℕ) (points : List Point) : Type 0 where
   pub bytes : List ℕ
   pub there : files (tile_name key) ≡ Some bytes
   pub form : IsTileOf bytes count points
 
--- it is absent, not of its form, or of another number of points
+-- it is missing, malformed, or has another number of points
 abbrev pub HasNoTile : Files → VoxelKey → ℕ → Type 0
 HasNoTile files key count = (points : List Point) → ¬ HasTile files key count points
 
--- of the needed hierarchy files, in key order, that of this key is the first that is damaged
+-- the hierarchy file of this key is, in key order, the first damaged one of those that are needed
 pub record IsFirstHierarchy (search : Search) (files : Files) (key : VoxelKey) : Type 0 where
   pub needed : IsNeeded search files key
   pub damaged : HasNoHierarchy search files key
   pub first : (other : VoxelKey) → IsNeeded search files other → IsBefore other key → (entries : List Entry) × HasHierarchy search files other entries
 
--- no hierarchy file is damaged, and of the tiles of the plan, in key order, that of this key is the first that is
+-- no hierarchy file is damaged, and the tile of this key is, in key order, the first damaged tile of the plan
 pub record IsFirstTile (search : Search) (files : Files) (key : VoxelKey) : Type 0 where
   pub each : EachIsThere search files
   pub count : ℕ
@@ -54,7 +54,8 @@ pub record IsFirstTile (search : Search) (files : Files) (key : VoxelKey) : Type
   pub damaged : HasNoTile files key count
   pub first : (other : VoxelKey) (n : ℕ) → IsPlanned search files other n → IsBefore other key → (points : List Point) × HasTile files other n points
 
--- the first of the files that is damaged: the build file, else a hierarchy file of the octree that it tells, else a tile
+-- The first damaged file: the build file; otherwise a hierarchy file of the octree that the build file describes;
+-- otherwise a tile.
 abbrev pub IsFirstDamaged : Box3 → ℕ → ℕ → QueryFile → Files → Type 0
 IsFirstDamaged area first last BuildJson files = HasNoBuild files
 IsFirstDamaged area first last (Hierarchy key) files =
@@ -64,7 +65,7 @@ IsFirstDamaged area first last (Tile key) files =
 
 -- ---- why a file is not read
 
--- of its bytes: the file is damaged, or memory ran out
+-- of a file's bytes: the file is damaged, or memory ran out
 abbrev pub RefusesBytes : QueryFile → Type 0 → QueryError → Type 0
 RefusesBytes file damaged NotComplete = ⊥
 RefusesBytes file damaged StoreFault = ⊥
@@ -80,7 +81,7 @@ RefusesReading file damaged files (Damaged found) = (found ≡ file) × Tells da
 RefusesReading file damaged files SinkFault = ⊥
 RefusesReading file damaged files Memory = ⊤
 
--- of the hierarchy files: the store failed, a file is the first that is damaged, or memory ran out
+-- of the hierarchy files: the store failed, a file is the first damaged one, or memory ran out
 abbrev pub RefusesWalk : Search → Option Files → QueryError → Type 0
 RefusesWalk search files NotComplete = ⊥
 RefusesWalk search files StoreFault = ⊤

@@ -1,4 +1,4 @@
--- The hierarchy files of a folder (Entwine Point Tile 1.1.0, "ept-hierarchy"): which one is of its form, and what it
+-- The hierarchy files of a folder (Entwine Point Tile 1.1.0, "ept-hierarchy"): which file is well-formed, and what it
 -- has.
 use Rattle.std.specs.Prelude.{◌≡◌, ◌≢◌, ℕ, ◌≤◌, ◌↔◌, negsuc, List, All, Some, IsTrue}
 use Rattle.std.specs.List.{Any}
@@ -9,18 +9,18 @@ use Rattle.ept_hier.specs.Reading.{IsReading}
 use Rattle.ept_meta.specs.Output.{hierarchy_name}
 use Rattle.ept_query.specs.declared.search.Search.{Search}
 
--- an entry that the file of `top` may have: of a key that is `top` or below it, no deeper than the file goes and than
--- the octree is; and -1 stands exactly at the links, which are as deep as the file goes
+-- An entry that the file of `top` may have. Its key is `top` or below it, no deeper than the file reaches, and no
+-- deeper than the octree is. The entry has -1 if and only if it is a link, and links are as deep as the file reaches.
 pub record IsEntryIn (search : Search) (top : VoxelKey) (entry : Entry) : Type 0 where
   pub stands : IsTrue (stands_in search.step top entry.0)
   pub shallow : entry.0.depth ≤ search.cube.depth
   pub link : (entry.1 ≡ negsuc 0) ↔ IsTrue (is_link search.step top entry.0)
 
--- an entry that tells the count of `top`
+-- an entry with the count of `top`
 abbrev pub IsOwn : VoxelKey → Entry → Type 0
 IsOwn top entry = (entry.0 ≡ top) × (entry.1 ≢ negsuc 0)
 
--- the entries are of the form of the file of `top`, which tells its own count
+-- the entries are well-formed for the file of `top`, which has its own count
 pub record AreOf (search : Search) (top : VoxelKey) (entries : List Entry) : Type 0 where
   pub own : Any (IsOwn top) entries
   pub each : All (IsEntryIn search top) entries
@@ -32,6 +32,6 @@ pub record HasHierarchy (search : Search) (files : Files) (top : VoxelKey) (entr
   pub reading : IsReading bytes entries
   pub form : AreOf search top entries
 
--- it is absent or not of its form
+-- it is missing or malformed
 abbrev pub HasNoHierarchy : Search → Files → VoxelKey → Type 0
 HasNoHierarchy search files top = (entries : List Entry) → ¬ HasHierarchy search files top entries

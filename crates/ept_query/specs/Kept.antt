@@ -6,7 +6,7 @@ use Rattle.ept_point.specs.Packed.{tile}
 use Rattle.ept_filter.specs.declared.sift.Sift.{Sift}
 use Rattle.ept_filter.specs.Sifting.{passes, cut}
 
--- the bytes: all points packed, or of those that pass the dimensions that are asked for
+-- the bytes: all points packed, or the dimensions that are asked for of the points that pass
 abbrev pub kept_bytes : Option Sift → List Point → List ℕ
 kept_bytes None points = tile points
 kept_bytes (Some sift) points = flat_map (cut sift) (filter (passes sift) points)

@@ -1,4 +1,4 @@
--- All nodes of a folder, as its build file and its hierarchy files tell them. The folder may hold anything.
+-- All nodes of a folder, as its build file and its hierarchy files state them. The folder may hold anything.
 use Rattle.std.specs.Prelude.{◌≡◌, ◌≤◌, ◌+◌, ℕ, List, length, Contains}
 use Rattle.std.specs.List.{All, AllZip}
 use Rattle.ept_base.specs.Files.{Files}
@@ -25,17 +25,17 @@ use Rattle.ept_query.specs.Damage.{HasTile}
 abbrev pub search_all : Kept → Search
 search_all kept = search_of kept EVERYWHERE 0 32
 
--- the done gate is open, each file of the hierarchy is of its form, these are the nodes with their counts that the
--- files tell, and the rules are those that the build file tells
+-- The done gate is open, and each file of the hierarchy is well-formed. These are the nodes with their counts as the
+-- files state them, and the rules are those of the build file.
 pub record HasNodes (rules : Rules) (nodes : List Node) (files : Files) : Type 0 where
   pub plan : IsPlanFor EVERYWHERE 0 32 (record { area = EVERYWHERE; tiles = nodes }) files
   pub rules_are : (kept : Kept) → IsBuiltWith files kept → rules ≡ rules_of kept
 
--- the tile of each node is there, with these points, as many as it counts
+-- the tile of each node is there, with these points, and their number is the node's count
 abbrev pub HasTilesOf : Files → List Node → List Tile → Type 0
 HasTilesOf files nodes tiles = AllZip (λ (n : Node) (t : Tile). (t.key ≡ n.0) × HasTile files n.0 n.1 t.points) nodes tiles
 
--- ---- what holds of all folders. Each statement stands on the contract of a function of `laws`
+-- ---- what holds of all folders. Each statement is in the contract of a function of `laws`
 
 -- no node lies outside what is looked for
 abbrev pub EverywhereIsMet : Type 0
@@ -56,22 +56,22 @@ abbrev pub NodesAreInOctree : Type 0
 NodesAreInOctree =
     (files : Files) (rules : Rules) (nodes : List Node) → HasNodes rules nodes files → IsCube rules.cube × All (λ (key : VoxelKey). IsKey key × (key.depth ≤ rules.cube.depth)) (keys_of nodes)
 
--- where they are listed no refusal of the listing is called for
+-- if the nodes are listed, the files call for no refusal of the listing
 abbrev pub PlanIsUncalled : Type 0
 PlanIsUncalled =
     (files : Files) (nodes : List Node) → IsPlanFor EVERYWHERE 0 32 (record { area = EVERYWHERE; tiles = nodes }) files → (error : QueryError) → ¬ CallsOfPlan EVERYWHERE 0 32 error files
 
--- and else one
+-- files call for at most one refusal of a listing
 abbrev pub PlanIsCalledOnce : Type 0
 PlanIsCalledOnce =
     (files : Files) (one other : QueryError) → CallsOfPlan EVERYWHERE 0 32 one files → CallsOfPlan EVERYWHERE 0 32 other files → one ≡ other
 
--- a listing and one call of `get` for each node are as many calls as a query for everything takes
+-- a listing and one call of `get` for each node take no more calls than a query for everything may
 abbrev pub NodesAreGot : Type 0
 NodesAreGot =
     (files : Files) (rules : Rules) (nodes : List Node) (old mid new : ℕ) → HasNodes rules nodes files → GetsFiles EVERYWHERE 0 32 old mid files → new ≤ mid + length nodes → GetsAll EVERYWHERE 0 32 old new files
 
--- those of a folder that is complete for some points are the nodes of the sampling, whose tiles are there
+-- the nodes of a folder that is complete for some points are the nodes of the sampling, and their tiles are there
 abbrev pub CompleteHasNodes : Type 0
 CompleteHasNodes =
     (kept : Kept) (points : List Point) (files : Files) → IsComplete kept points files → (rules : Rules) (nodes : List Node) → HasNodes rules nodes files → (rules ≡ rules_of kept) × HasTilesOf files nodes (sampled (rules_of kept) points)

@@ -17,7 +17,7 @@ pub record Plan : Type 0 where
   pub area : Box3
   pub tiles : List Node
 
--- the tile of that number
+-- the tile of this number
 abbrev pub node_at : Plan → ℕ → Node
 node_at plan number = slice_index_or plan.tiles number (root, 0)
 
@@ -35,8 +35,8 @@ pub record IsPart (files : Files) (area : Box3) (node : Node) (part : List Point
 abbrev pub points_of : List (List Point) → List Point
 points_of parts = flat_map (λ (part : List Point). part) parts
 
--- Bytes are the packed points in the area of a tile, and this is their number. The tile has as many points as its
--- hierarchy file counts, and where the store tells, they are those of its file.
+-- Bytes are the packed points in the area of a tile, and this is their number. The number of points of the tile is the
+-- count of its hierarchy file. If the store's contents are visible, they are the points of its file.
 pub record IsPartOf (area : Box3) (node : Node) (bytes : List ℕ) (number : ℕ) (files : Option Files) : Type 0 where
   pub points : List Point
   pub ascend : IsAscending points

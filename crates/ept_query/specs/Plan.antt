@@ -10,27 +10,27 @@ use Rattle.ept_query.specs.declared.search.Search.{Search}
 use Rattle.ept_query.specs.Search.{MeetsArea, HasDepth}
 use Rattle.ept_query.specs.Hierarchies.{HasHierarchy}
 
--- the build file of the folder tells what its output depends on
+-- the build file of the folder states what its output depends on
 abbrev pub IsBuiltWith : Files → Kept → Type 0
 IsBuiltWith files kept = files build_file_name ≡ Some (build_text kept)
 
--- the build file is there and of its form
+-- the build file is there and well-formed
 abbrev pub HasBuild : Files → Type 0
 HasBuild files = (kept : Kept) × IsBuiltWith files kept
 
--- The hierarchy file of a key is needed: it is the root's, or a needed file of its form has a link to it; and the box of
+-- The hierarchy file of a key is needed. It is the root's, or a needed, well-formed file has a link to it. The box of
 -- the key meets the area.
 pub data IsNeeded (search : Search) (files : Files) : VoxelKey → Type 0 where
   at_root : MeetsArea search root → IsNeeded search files root
   behind : (top key : VoxelKey) (entries : List Entry) → IsNeeded search files top → HasHierarchy search files top entries → Contains entries (key, negsuc 0) → MeetsArea search key → IsNeeded search files key
 
--- each needed file is there and of its form
+-- each needed file is there and well-formed
 abbrev pub EachIsThere : Search → Files → Type 0
 EachIsThere search files =
     (key : VoxelKey) → IsNeeded search files key → (entries : List Entry) × HasHierarchy search files key entries
 
--- the tile of a key is one of the plan: a needed file has this count of it, its depth is asked for and its box meets
--- the area
+-- The tile of a key is one of the plan. A needed file has this count of it, its depth is asked for, and its box meets
+-- the area.
 pub record IsPlanned (search : Search) (files : Files) (key : VoxelKey) (count : ℕ) : Type 0 where
   pub top : VoxelKey
   pub needed : IsNeeded search files top

@@ -1,4 +1,4 @@
--- Which refusal of a query comes.
+-- Which refusal a query returns.
 use Rattle.std.specs.Prelude.{◌≡◌, ◌⊎◌, ℕ, ⊤, Option, Some, Result, Err}
 use Rattle.ept_base.specs.Files.{Files, Tells}
 use Rattle.ept_space.specs.declared.box3.Box3.{Box3}
@@ -37,7 +37,7 @@ RefusesQuery area first last files (Damaged file) = Tells (λ all. IsDone all ×
 RefusesQuery area first last files SinkFault = ⊤
 RefusesQuery area first last files Memory = ⊤
 
--- ---- which one comes
+-- ---- which refusal is returned
 
 -- the files call for this refusal of a plan
 abbrev pub CallsOfPlan : Box3 → ℕ → ℕ → QueryError → Files → Type 0
@@ -57,19 +57,20 @@ CallsOfQuery area first last (Damaged file) files = IsDone files × IsFirstDamag
 CallsOfQuery area first last SinkFault files = ⊥
 CallsOfQuery area first last Memory files = ⊥
 
--- the call answers this refusal, or a device failed, or memory ran out
+-- the call returns this refusal, or a device failed, or memory ran out
 abbrev pub AnswersOrFails : {T : Type 0} → Result T QueryError → QueryError → Type 0
 AnswersOrFails result error =
     (result ≡ Err error) ⊎ (result ≡ Err StoreFault) ⊎ (result ≡ Err SinkFault) ⊎ (result ≡ Err Memory)
 
--- the refusal that the files call for is answered
+-- the refusal that the files call for is returned
 abbrev pub RefusesAsCalled : {T : Type 0} → (QueryError → Files → Type 0) → Option Files → Result T QueryError → Type 0
 RefusesAsCalled calls files result =
     (all : Files) → files ≡ Some all → (error : QueryError) → calls error all → AnswersOrFails result error
 
 -- ---- what it takes
 
--- How many files a query gets before a refusal, at most: where there is no plan, those that a plan takes; where a tile is damaged, none behind it in key order.
+-- How many files a query reads before a refusal, at most. If there is no plan, those that a plan takes. If a tile is
+-- damaged, no tile after it in key order.
 abbrev pub GetsBefore : Box3 → ℕ → ℕ → ℕ → ℕ → QueryError → Files → Type 0
 GetsBefore area first last before now NotComplete files = GetsFiles area first last before now files
 GetsBefore area first last before now StoreFault files = GetsAll area first last before now files

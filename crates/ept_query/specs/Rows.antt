@@ -19,11 +19,11 @@ use Rattle.ept_filter.specs.Sifting.{passes, cut}
 abbrev pub Row : Type 0
 Row = VoxelKey × Point
 
--- all of them, by key and then by id, since tiles and the points of each stand so
+-- all of them, by key and then by id, since the tiles are by key and the points of each by id
 abbrev pub rows_of : List Tile → List Row
 rows_of tiles = flat_map (λ (t : Tile). map (λ (p : Point). (t.key, p)) t.points) tiles
 
--- a coordinate lies from a least one to a greatest, both included
+-- a coordinate is from a least to a greatest value, both included
 abbrev pub is_between : ℤ → ℤ → ℤ → Bool
 is_between least greatest at = le_z least at && le_z at greatest
 
@@ -51,14 +51,14 @@ asked_rows kept points area first last =
 abbrev pub asked_points : Kept → List Point → Box3 → ℕ → ℕ → List Point
 asked_points kept points area first last = map (λ (row : Row). row.1) (asked_rows kept points area first last)
 
--- the answer to a query: the packed points, one after another
+-- the result of a query: the packed points, one after another
 abbrev pub answer : Kept → List Point → Box3 → ℕ → ℕ → List ℕ
 answer kept points area first last = tile (asked_points kept points area first last)
 
--- those that pass a selection, in the same order
+-- the points of these that pass a selection, in the same order
 abbrev pub passing_points : Sift → Kept → List Point → Box3 → ℕ → ℕ → List Point
 passing_points sift kept points area first last = filter (passes sift) (asked_points kept points area first last)
 
--- the selection: the dimensions that are asked for of each, one after another
+-- the result of a selection: the dimensions that are asked for of each point, one after another
 abbrev pub selection : Sift → Kept → List Point → Box3 → ℕ → ℕ → List ℕ
 selection sift kept points area first last = flat_map (cut sift) (passing_points sift kept points area first last)

@@ -7,13 +7,13 @@ use Rattle.ept_query.specs.declared.search.Search.{Search}
 use Rattle.ept_query.specs.Search.{MeetsArea, HasDepth}
 use Rattle.ept_query.specs.Hierarchies.{HasHierarchy}
 
--- the links whose boxes meet the area are noted beside other keys
+-- the links whose boxes meet the area are noted, besides the keys noted before
 pub record NotesLinks (search : Search) (entries : List Entry) (old new : List VoxelKey) : Type 0 where
   pub kept : (key : VoxelKey) → Contains old key → Contains new key
   pub noted : (key : VoxelKey) → Contains entries (key, negsuc 0) → MeetsArea search key → Contains new key
   pub only : (key : VoxelKey) → Contains new key → Contains old key ⊎ (Contains entries (key, negsuc 0) × MeetsArea search key)
 
--- the keys with counts that are asked for are noted beside others
+-- the keys with counts that are asked for are noted, besides those noted before
 pub record NotesTiles (search : Search) (entries : List Entry) (old new : VoxelKey → Option ℕ) : Type 0 where
   pub kept : (key : VoxelKey) → IsSome (old key) → IsSome (new key)
   pub noted : (key : VoxelKey) (count : ℕ) → Contains entries (key, pos count) → HasDepth search key → MeetsArea search key → IsSome (new key)

@@ -19,20 +19,20 @@ use Rattle.ept_query.specs.Kept.{kept_bytes, kept_count}
 
 -- ---- one tile
 
--- what is kept of its part was appended, and of so many points
+-- what is kept of its part was appended, and `count` is how many points that is
 pub record WritesTile (sift : Option Sift) (area : Box3) (node : Node) (old new : Option (List ℕ)) (count : ℕ) (files : Files) : Type 0 where
   pub part : List Point
   pub is_part : IsPart files area node part
   pub written : Appends old new (kept_bytes sift part)
   pub counted : count ≡ kept_count sift part
 
--- a front of that was appended
+-- a prefix of what is kept of its part was appended
 pub record WritesSome (sift : Option Sift) (area : Box3) (node : Node) (old new : Option (List ℕ)) (files : Files) : Type 0 where
   pub part : List Point
   pub is_part : IsPart files area node part
   pub written : AppendsPrefix old new (kept_bytes sift part)
 
--- what is left of a tile that was refused: nothing was written, or at a fault of the sink a front
+-- what is left of a tile that was refused: nothing was written, or a prefix if the sink failed
 abbrev pub LeavesTile : Option Sift → Box3 → Node → Option Files → Option (List ℕ) → Option (List ℕ) → QueryError → Type 0
 LeavesTile sift area node files old new NotComplete = ⊥
 LeavesTile sift area node files old new StoreFault = new ≡ old
@@ -49,7 +49,7 @@ pub record WritesAll (sift : Option Sift) (plan : Plan) (old new : Option (List 
   pub written : Appends old new (kept_bytes sift (points_of parts))
   pub counted : count ≡ min (kept_count sift (points_of parts)) (2 ^ 64 - 1)
 
--- some first of them were read, and a front of what is kept of their parts was appended
+-- the first tiles were read, and a prefix of what is kept of their parts was appended
 pub record WritesFront (sift : Option Sift) (plan : Plan) (old new : Option (List ℕ)) (files : Files) : Type 0 where
   pub front : List Node
   pub back : List Node
@@ -58,7 +58,8 @@ pub record WritesFront (sift : Option Sift) (plan : Plan) (old new : Option (Lis
   pub read : AllZip (IsPart files plan.area) front parts
   pub written : AppendsPrefix old new (kept_bytes sift (points_of parts))
 
--- those before the tile of a key were read, and what is kept of their parts was appended; that tile is damaged
+-- The tiles before the tile of a key were read, and what is kept of their parts was appended. The tile of the key is
+-- damaged.
 pub record WritesBefore (sift : Option Sift) (plan : Plan) (key : VoxelKey) (old new : Option (List ℕ)) (files : Files) : Type 0 where
   pub front : List Node
   pub count : ℕ
@@ -69,7 +70,7 @@ pub record WritesBefore (sift : Option Sift) (plan : Plan) (key : VoxelKey) (old
   pub read : AllZip (IsPart files plan.area) front parts
   pub written : Appends old new (kept_bytes sift (points_of parts))
 
--- what is left where the tiles were refused
+-- what is left if the tiles were refused
 abbrev pub LeavesTiles : Option Sift → Plan → Option Files → Option (List ℕ) → Option (List ℕ) → QueryError → Type 0
 LeavesTiles sift plan files old new NotComplete = ⊥
 LeavesTiles sift plan files old new StoreFault = Tells (WritesFront sift plan old new) files
@@ -79,7 +80,7 @@ LeavesTiles sift plan files old new (Damaged (Tile key)) = Tells (WritesBefore s
 LeavesTiles sift plan files old new SinkFault = Tells (WritesFront sift plan old new) files
 LeavesTiles sift plan files old new Memory = Tells (WritesFront sift plan old new) files
 
--- so many tiles of a plan were got at most as there are up to the one of this key
+-- no more tiles of a plan were read than there are up to the tile of this key
 pub record GetsTo (plan : Plan) (key : VoxelKey) (before now : ℕ) : Type 0 where
   pub number : ℕ
   pub within : number < length plan.tiles

@@ -22,17 +22,16 @@ use ept_meta::output_once_law;
 use ept_space::Box3;
 use std::alloc::Global;
 
-/// Appends the packed points of a finished dataset that lie in the area and in the nodes from the first of
-/// `depths` to the second, by key and then by id, and answers their number, which stands still at the last
-/// of 64 bits.
+/// Appends the packed points of a finished dataset in an area, by key and then by id. The nodes are those from the
+/// first of `depths` to the second. Returns the number of points, which saturates at 2^64 - 1.
 ///
 /// The sink gets the points tile by tile: the bytes of one tile are in memory at a time.
 ///
 /// # Errors
 ///
-/// `NotComplete` where the done gate is not open; else `Damaged` with the first file that is absent or not
-/// of its form: the build file, the hierarchy files in key order, then the tiles in key order. Of a tile
-/// that is refused no byte is appended.
+/// `NotComplete` if the done gate is not open. Otherwise `Damaged` with the first file that is missing or malformed.
+/// The order is: the build file, the hierarchy files in key order, the tiles in key order. No byte of a refused tile is
+/// appended.
 pub fn query<T: Store, O: Sink>(
     alloc: Global,
     store: &mut T,
@@ -60,8 +59,8 @@ pub fn query<T: Store, O: Sink>(
     answer(alloc, store, area, depths, &None, out)
 }
 
-/// Appends what a selection keeps of the points that `query` appends, point by point in the same order, and
-/// answers how many points pass, a number that stands still at the last of 64 bits.
+/// Appends what a selection keeps of the points that `query` appends, point by point in the same order. Returns how
+/// many points pass, a number that saturates at 2^64 - 1.
 ///
 /// The sink gets it tile by tile: the bytes of one tile are in memory at a time.
 ///

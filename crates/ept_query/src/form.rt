@@ -9,14 +9,14 @@ ghost use Rattle.ept_query.specs.Hierarchies.{AreOf, IsEntryIn, IsOwn};
 use crate::search::Search;
 use ept_space::Key;
 
-/// Whether the entries are of the form of the hierarchy file of `top`.
+/// Whether the entries are well-formed for the hierarchy file of `top`.
 pub(crate) fn are_of(search: &Search, top: &Key, entries: &[(Key, i64)]) -> bool
     ensures { IsTrue result ↔ AreOf search.now top.now entries.now }
 {
     has_own(top, entries) && entries.iter().all(|entry| is_entry_in(search, top, entry))
 }
 
-// Whether one of the entries tells the count of `top`.
+// Whether one of the entries has the count of `top`.
 fn has_own(top: &Key, entries: &[(Key, i64)]) -> bool
     ensures { IsTrue result ↔ Any (IsOwn top.now) entries.now }
 {
@@ -39,7 +39,7 @@ fn is_entry_in(search: &Search, top: &Key, entry: &(Key, i64)) -> bool
     stands && key.depth <= search.cube.depth && (entry.1 == -1) == is_link
 }
 
-// Whether a node stands in the file of `top`.
+// Whether a node is in the file of `top`.
 #[tactic(auto, unfolding(ept_hier::specs::Hierarchy::stands_in))]
 fn stands_in(step: u8, top: &Key, key: &Key) -> bool
     ensures { result ≡ stands_in step top.now key.now }
@@ -48,7 +48,7 @@ fn stands_in(step: u8, top: &Key, key: &Key) -> bool
     is_within(top, key) && near
 }
 
-// Whether a node is a link there.
+// Whether a node is a link in that file.
 #[tactic(auto, unfolding(ept_hier::specs::Hierarchy::is_link))]
 fn is_link(step: u8, top: &Key, key: &Key) -> bool
     ensures { result ≡ is_link step top.now key.now }

@@ -41,7 +41,7 @@ pub(crate) fn entries_at<T: Store>(
     entries_in(alloc, search, top, &bytes)
 }
 
-// The entries that bytes are read as, where they are of the form of the file of `top`.
+// The entries that bytes are read as, if they are well-formed for the file of `top`.
 fn entries_in(
     alloc: Global,
     search: &Search,
@@ -66,7 +66,7 @@ fn entries_in(
     }
 }
 
-// What is told of a hierarchy file that is refused.
+// The refusal of a hierarchy file.
 fn told_of(error: HierError, file: QueryFile) -> QueryError
     ensures { result ≡ of_hierarchy file error }
 {

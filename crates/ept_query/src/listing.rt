@@ -1,4 +1,4 @@
-//! All nodes of a folder, as its hierarchy tells them.
+//! All nodes of a folder, as its hierarchy files state them.
 
 ghost use Rattle.std.specs.Prelude.{◌≤◌, List, All, IfOk, IfErr};
 ghost use Rattle.ept_base.specs.Causes.{HasCauseOf};
@@ -26,19 +26,19 @@ pub const EVERYWHERE: Box3 = Box3 {
 /// All nodes of a folder.
 #[derive(Debug, Drop)]
 pub struct AllNodes {
-    /// The rules of the sampling, as the build file tells them.
+    /// The rules of the sampling, as the build file states them.
     pub rules: Rules,
-    /// The keys of the nodes, in key order, each with the number of points that its hierarchy file tells.
+    /// The keys of the nodes, in key order, each with the count of its hierarchy file.
     pub nodes: Vec<(Key, u64)>,
 }
 
-/// All nodes of a folder, as the build file and the hierarchy files tell them. There are at most two calls of
-/// `get` and one for each hierarchy file.
+/// All nodes of a folder, as the build file and the hierarchy files state them. There are at most two calls of `get`
+/// and one for each hierarchy file.
 ///
 /// # Errors
 ///
-/// `NotComplete` where the done gate is not open; else `Damaged` with the first file that is absent or not
-/// of its form: the build file, then the hierarchy files in key order.
+/// `NotComplete` if the done gate is not open. Otherwise `Damaged` with the first file that is missing or malformed:
+/// the build file, then the hierarchy files in key order.
 pub fn all_nodes<T: Store>(alloc: Global, store: &mut T) -> Result<AllNodes, QueryError>
     ensures nodes { IfOk result (λ all. Tells (HasNodes all.rules all.nodes.items) (T.files store.old)) }
     ensures shallow { IfOk result (λ all. All (λ (n : Node). n.0.depth ≤ all.rules.cube.depth) all.nodes.items) }

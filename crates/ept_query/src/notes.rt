@@ -1,4 +1,4 @@
-//! What is noted of the entries of a hierarchy file: the files still to be got, and the tiles of the plan.
+//! What is noted of the entries of a hierarchy file: the files still to be read, and the tiles of the plan.
 
 ghost use Rattle.std.specs.Prelude.{◌≡◌, ◌≢◌, ◌≤◌, ◌↔◌, ◌∷◌, [], ℕ, pos, negsuc, All, IsTrue, OnOk, IfSome, IfNone};
 ghost use Rattle.std.specs.BTreeMap.{get};

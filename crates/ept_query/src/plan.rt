@@ -7,8 +7,8 @@ ghost use Rattle.ept_query.specs.Parts.{node_at};
 use ept_space::{Box3, Key};
 use std::marker::Model;
 
-/// The tiles that a query reads, in key order, each with the number of points that its hierarchy file
-/// tells, and the area that is asked for.
+/// The tiles that a query reads, in key order, each with the count of its hierarchy file; and the area that is asked
+/// for.
 #[derive(Debug, Drop)]
 pub struct QueryPlan {
     pub(crate) area: Box3,
@@ -38,7 +38,7 @@ impl QueryPlan {
         self.tiles.is_empty()
     }
 
-    /// The key of the tile of that number, from 0 and in key order.
+    /// The key of the tile of this number, from 0 and in key order.
     pub fn key(&self, number: usize) -> Key
         requires { number < length self.now.tiles }
         ensures { slice_get (keys_of self.now.tiles) number ≡ Some result }
@@ -46,7 +46,7 @@ impl QueryPlan {
         self.tiles[number].0
     }
 
-    /// The key and the count of the tile of that number.
+    /// The key and the count of the tile of this number.
     pub(crate) fn node(&self, number: usize) -> (Key, u64)
         requires { number < length self.now.tiles }
         ensures { result ≡ node_at self.now number }

@@ -24,13 +24,13 @@ use std::alloc::Global;
 
 /// The plan of the query for the points of an area, in the nodes from the first of `depths` to the second.
 ///
-/// Hierarchy files are got from the root's on, each link being followed whose box meets the area. So there
-/// are at most two calls of `get` and one for each hierarchy file whose box meets the area.
+/// Hierarchy files are read from the root's on, and each link whose box meets the area is followed. So there are at
+/// most two calls of `get` and one for each hierarchy file whose box meets the area.
 ///
 /// # Errors
 ///
-/// `NotComplete` where the done gate is not open; else `Damaged` with the first file that is absent or not
-/// of its form: the build file, then the hierarchy files in key order.
+/// `NotComplete` if the done gate is not open. Otherwise `Damaged` with the first file that is missing or malformed:
+/// the build file, then the hierarchy files in key order.
 pub fn query_plan<T: Store>(
     alloc: Global,
     store: &mut T,

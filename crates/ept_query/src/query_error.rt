@@ -25,8 +25,8 @@ pub enum QueryError {
     NotComplete,
     /// The store failed: its count of faults rose.
     StoreFault,
-    /// A file is absent or not of its form, or a tile has another number of points than its hierarchy file
-    /// says. It is the first such file in the order in which they are read.
+    /// A file is missing or malformed, or a tile has another number of points than its hierarchy file says. It is the
+    /// first such file in the order in which they are read.
     Damaged { file: QueryFile },
     /// The sink failed: its count of faults rose.
     SinkFault,
@@ -47,7 +47,7 @@ impl From<GetError> for QueryError {
     }
 }
 
-/// A sink is refused as [`Failed`].
+/// A refusal of a sink, as [`Failed`].
 impl From<Failed> for QueryError {
     ghost use Rattle.ept_query.specs.declared.query_error.QueryError.TheVariants.{SinkFault};
 

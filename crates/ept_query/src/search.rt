@@ -7,8 +7,8 @@ use ept_class::ClassSet;
 use ept_config::Kept;
 use ept_space::{Box3, Cube, Key, Rules, meets, node_box};
 
-/// What a query looks for: the points of an area, in the nodes from one depth to another of an octree, of
-/// whose depths `step` stand in one hierarchy file. The first four fields are the rules of the octree.
+/// What a query looks for: the points of an area, in the nodes from one depth to another of an octree. A hierarchy file
+/// has `step` depths of it. The first four fields are the rules of the octree.
 #[derive(Clone, Copy)]
 pub(crate) struct Search {
     pub(crate) cube: Cube,

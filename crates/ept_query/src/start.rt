@@ -1,4 +1,4 @@
-//! What a query looks for, as the done gate and the build file of a folder tell.
+//! What a query looks for, from the done gate and the build file of a folder.
 
 ghost use Rattle.std.specs.Prelude.{◌≡◌, ◌≢◌, ◌+◌, ◌≤◌, ◌↔◌, IsTrue, IfOk, IfErr};
 ghost use Rattle.ept_base.specs.Causes.{HasCauseOf};
@@ -23,7 +23,7 @@ use ept_save::SaveError;
 use ept_space::Box3;
 use std::alloc::Global;
 
-/// What is looked for, for the points of these places and depths, where the output is complete.
+/// What is looked for, for the points of these places and depths, if the output is complete.
 pub(crate) fn search_at<T: Store>(
     alloc: Global,
     store: &mut T,
@@ -61,7 +61,7 @@ fn is_done<T: Store>(alloc: Global, store: &mut T) -> Result<bool, QueryError>
     }
 }
 
-// What the output depends on, as the build file tells it.
+// What the output depends on, as the build file states it.
 fn kept_at<T: Store>(alloc: Global, store: &mut T) -> Result<Kept, QueryError>
     ensures found { IfOk result (λ kept. Tells (IsBuiltOnly kept) (T.files store.old)) }
     ensures refused { IfErr result (RefusesReading QueryFile.BuildJson HasNoBuild (T.files store.old)) }
@@ -74,7 +74,7 @@ fn kept_at<T: Store>(alloc: Global, store: &mut T) -> Result<Kept, QueryError>
     kept_in(alloc, &bytes)
 }
 
-// What bytes tell as a build file.
+// What bytes state as a build file.
 fn kept_in(alloc: Global, bytes: &[u8]) -> Result<Kept, QueryError>
     ensures text { IfOk result (λ kept. bytes.now ≡ build_text kept) }
     ensures only { IfOk result (λ kept. (other : Kept) → bytes.now ≡ build_text other → other ≡ kept) }
@@ -87,7 +87,7 @@ fn kept_in(alloc: Global, bytes: &[u8]) -> Result<Kept, QueryError>
     }
 }
 
-// What is told of a build file that is refused.
+// The refusal of a build file.
 fn told_of(error: MetaError) -> QueryError
     ensures { result ≡ of_build error }
 {

@@ -22,13 +22,13 @@ use ept_sample::place_of;
 use ept_space::{Box3, Key, contains};
 use std::alloc::Global;
 
-/// Makes `into` the packed points in the area of the tile of that number of the plan, in id order, and
-/// answers their number. No more than one file is got. After a refusal `into` is as it was.
+/// Makes `into` the packed points in the area of the tile of this number of the plan, in id order, and returns their
+/// number. At most one file is read. After a refusal `into` is as it was.
 ///
 /// # Errors
 ///
-/// `Damaged` with the tile where it is absent, not of its form, or of another number of points than the
-/// plan has from its hierarchy file.
+/// `Damaged` with the tile if it is missing, malformed, or has another number of points than the plan has from its
+/// hierarchy file.
 pub fn query_tile<T: Store>(
     alloc: Global,
     store: &mut T,
@@ -53,11 +53,11 @@ pub fn query_tile<T: Store>(
     Ok(number)
 }
 
-/// The points of the tile of a key, in id order, which are as many as counted. No more than one file is got.
+/// The points of the tile of a key, in id order; their number is `count`. At most one file is read.
 ///
 /// # Errors
 ///
-/// `Damaged` with the tile where it is absent, not of its form, or of another number of points.
+/// `Damaged` with the tile if it is missing, malformed, or has another number of points.
 pub fn tile_points<T: Store>(
     alloc: Global,
     store: &mut T,
@@ -78,7 +78,7 @@ pub fn tile_points<T: Store>(
     }
 }
 
-// The bytes of the tile of a key, and the points of which they are the packed form.
+// The bytes of the tile of a key, and the points whose packed form they are.
 fn read_points<T: Store>(
     alloc: Global,
     store: &mut T,
@@ -100,7 +100,7 @@ fn read_points<T: Store>(
     Ok((bytes, points))
 }
 
-// The points that bytes are read as, where they are as many as counted.
+// The points that bytes are read as, if their number is `count`.
 fn points_of(
     alloc: Global,
     bytes: &[u8],
@@ -122,7 +122,7 @@ fn points_of(
     }
 }
 
-// What is told of a tile that is refused.
+// The refusal of a tile.
 fn told_of(error: TileError, file: QueryFile) -> QueryError
     ensures { result ≡ of_tile file error }
 {
@@ -134,7 +134,7 @@ fn told_of(error: TileError, file: QueryFile) -> QueryError
     }
 }
 
-// The packed points that lie in the area, and their number: the bytes themselves where all do.
+// The packed points that lie in the area, and their number. They are the bytes themselves if all points lie there.
 fn part_in(
     alloc: Global,
     area: &Box3,

@@ -9,8 +9,7 @@ use ept_filter::{Sift, SiftError, sift_law, sift_points};
 use ept_point::{Memory, tile_length_law};
 use std::alloc::Global;
 
-/// Makes packed points what is kept of them, and returns of how many: of all of them where there is no
-/// selection.
+/// Makes packed points what is kept of them, and returns of how many: of all of them if there is no selection.
 pub(crate) fn trim(
     alloc: Global,
     sift: &Option<Sift>,

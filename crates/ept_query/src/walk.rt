@@ -24,8 +24,8 @@ use ept_space::Key;
 use std::alloc::Global;
 use std::collections::{BTreeMap, BTreeSet};
 
-/// The tiles of the plan with their counts, in key order: gets the hierarchy files that are needed, each
-/// once and in key order.
+/// The tiles of the plan with their counts, in key order. Reads the hierarchy files that are needed, each once and in
+/// key order.
 pub(crate) fn tiles_of<T: Store>(
     alloc: Global,
     store: &mut T,
@@ -49,7 +49,7 @@ pub(crate) fn tiles_of<T: Store>(
     listed(alloc, tiles)
 }
 
-// Gets the hierarchy file of a key, and notes its links and counts.
+// Reads the hierarchy file of a key, and notes its links and counts.
 fn note_file<T: Store>(
     alloc: Global,
     store: &mut T,

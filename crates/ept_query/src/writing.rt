@@ -17,8 +17,8 @@ use ept_base::{Sink, Store, write_full};
 use ept_filter::Sift;
 use std::alloc::Global;
 
-/// Appends what is kept of the points in the area of the tiles of the plan, tile by tile, and answers of how
-/// many points, a number that stands still at the last of 64 bits.
+/// Appends what is kept of the points in the area of the tiles of the plan, tile by tile. Returns of how many points, a
+/// number that saturates at 2^64 - 1.
 pub(crate) fn write_tiles<T: Store, O: Sink>(
     alloc: Global,
     store: &mut T,
@@ -44,7 +44,7 @@ pub(crate) fn write_tiles<T: Store, O: Sink>(
     Ok(total)
 }
 
-// Appends what is kept of the points in the area of one tile, and answers of how many.
+// Appends what is kept of the points in the area of one tile, and returns of how many.
 fn write_tile<T: Store, O: Sink>(
     alloc: Global,
     store: &mut T,

@@ -10,7 +10,7 @@ use Rattle.ept_check.proofs.Sets.{child-shallow, cube-shallow}
 use Rattle.ept_check.proofs.octree.Octree.has_full_children.Goals as goal
 use Rattle.ept_check.proofs.octree.Octree.has_full_children.Goals.{else-has_child-via-then-has_child+else-not-is_full, else-has_child-via-else-has_child}
 
--- a number that stands still at the last of 64 bits is above a threshold of 64 bits where the sum is
+-- a number that saturates at 2^64 - 1 is above a threshold of 64 bits if the sum is
 full-there : (octree : Octree) (key at : VoxelKey) → IsOctree octree → at ≡ key → octree.rules.threshold < total_at octree.totals at → octree.rules.threshold < counted_within octree.nodes.items key
 full-there octree key at is same less =
     let total = is.totals_are key in
