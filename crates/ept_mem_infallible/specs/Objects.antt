@@ -14,7 +14,7 @@ use Rattle.ept_mem_infallible.specs.declared.store.SureStore.{SureStore}
 abbrev pub no_files : Files
 no_files = λ name. None
 
--- each name has a file: the one that these files have of it, or else an empty one
+-- each name has a file: the one that these files have for it, or otherwise an empty one
 abbrev pub or_empty : Files → Files
 or_empty files = λ name. Some (unwrap_or (files name) [])
 

@@ -33,8 +33,7 @@ impl Source for SureSource {
     }
 }
 
-/// A shelf in memory that never fails. Each path can be opened: one of which it was given no file is that of
-/// an empty file.
+/// A shelf in memory that never fails. Each path can be opened: a path without a file of its own is an empty file.
 #[derive(Debug, Drop)]
 pub struct SureShelf {
     alloc: Global,
