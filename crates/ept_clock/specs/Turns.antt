@@ -18,7 +18,7 @@ IsFirstBehind hand slots at = NoneBehind hand slots at × (hand < slice_index sl
 abbrev pub BeginsAgain : ℕ → List ℕ → ℕ → Type 0
 BeginsAgain hand slots at = NoneBehind hand slots (length slots) × (at ≡ 0)
 
--- It is the turn of the slot at this place: the first one after the hand, or the first of all if none comes after it.
+-- It is the turn of the slot at this place: the first slot after the hand, or the first of all if none is.
 pub record IsTurn (hand : ℕ) (slots : List ℕ) (at : ℕ) : Type 0 where
   pub there : at < length slots
   pub next : IsFirstBehind hand slots at ⊎ BeginsAgain hand slots at
