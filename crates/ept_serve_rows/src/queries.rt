@@ -63,7 +63,7 @@ fn sift_of(text: &str) -> Result<(Sift, &str), RowError> {
     Ok((sift.ok_or(RowError::Form)?, text))
 }
 
-/// `again BOX DEPTHS STORE`: the answers of one query that runs twice over the same store and the same sink.
+/// `again BOX DEPTHS STORE`: the results of one query that runs twice over the same store and the same sink.
 pub(crate) fn again(
     alloc: Global,
     folder: &Folder,

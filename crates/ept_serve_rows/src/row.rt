@@ -1,9 +1,9 @@
-//! Rows: their words, and why one has no answer.
+//! Rows: their words, and why one has no result.
 
 use ept_point::Memory;
 use std::alloc::{AllocError, AllocFailed, Global};
 
-/// Why a row has no answer.
+/// Why a row has no result.
 #[derive(Clone, Copy)]
 pub(crate) enum RowError {
     /// The line is not a row.
