@@ -1,6 +1,5 @@
 //! Rows of builds, parts, merges, queries, selections, checks and trials over devices in memory. A line of the input
-//! makes a file, lets a call fail, runs the words of a command line or looks at what a run left. The program prints its
-//! result.
+//! makes a file, lets a call fail, runs a command line or looks at what a run left. The program prints its result.
 #![tactic(auto)]
 
 mod bench;
