@@ -30,8 +30,8 @@ pub enum Found {
     Reader { drawn: u64 },
 }
 
-/// What a session leaves. Also what it found in the slots 0, 1 and the last one, and in slot 1 by a second seat, if
-/// there was memory for it.
+/// What a session leaves. Also what it found in the slots 0, 1 and the last one, and a second seat in slot 1. It found
+/// nothing if there was no memory for it.
 pub struct Left<F, S> {
     pub forest: Forest<F>,
     pub reader: Reader<S>,
