@@ -28,7 +28,7 @@ pub struct Found<'a> {
     pub has_out: bool,
 }
 
-/// Writes why the run of these words failed, as one sentence, or as the usage if they are no command.
+/// Why the run of these words failed, as one sentence, or as the usage if they are no command.
 ///
 /// If an input, a key or a value of it is to be named, the configuration is read from the shelf again. If the
 /// configuration differs from what the folder of a build keeps, the checkpoint is read from the store again too.
