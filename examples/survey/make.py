@@ -3,8 +3,8 @@
 
 Usage: examples/survey/make.py        (writes next to itself)
 
-Four flights cover a field of 200 by 200 metres: two of format 3 (LAS 1.2, GPS time and colour) and two of format 7
-(LAS 1.4). Each covers a quarter, with an overlap. The first two hold coordinates in centimetres from the corner of the
+Four flights cover a field of 200 by 200 metres. Two have format 3 (LAS 1.2, GPS time and colour), and two have
+format 7 (LAS 1.4). Each covers a quarter, with an overlap. The first two hold coordinates in centimetres from the corner of the
 field; the last two in decimetres from their own corner. Their headers say so, with offsets, scales, extents and
 the reference system, as any reader of LAS files expects.
 """

@@ -20,7 +20,7 @@ or_empty files = λ name. Some (unwrap_or (files name) [])
 
 -- ---- sources
 
--- the bytes of a source, those from its place on, and how many it has given
+-- the bytes of a source, those from its place to its end, and how many it has given
 abbrev pub source_bytes_of : SureSource → List ℕ
 source_bytes_of source = source_bytes source.source
 

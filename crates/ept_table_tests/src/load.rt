@@ -99,7 +99,7 @@ fn work<H: Wait>(rt: &H, bay: &Bay, mut loader: Loader, from: usize, to: usize) 
     loader
 }
 
-// Two loaders, each in a thread: what is loaded in the end and what is free then are all permits.
+// Two loaders, each in a thread: what is loaded at the end and what is free then are all permits.
 pub fn load_apart<R: Threads + Wait + Sync>(
     rt: &R,
     alloc: Global,

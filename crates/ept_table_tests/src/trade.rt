@@ -1,4 +1,4 @@
-//! Numbers that are traded at a table: a trader leaves what it carries in a slot and takes what lay there.
+//! Numbers that are traded at a table: a trader leaves what it carries in a slot and takes what was there.
 ghost use Rattle.std.specs.Prelude.{◌≡◌, ℕ, ◌+◌, ◌<◌, ◌≤◌, length, IfOk, IfSome, unwrap_or};
 ghost use Rattle.std.specs.List.{sum_by};
 ghost use Rattle.ept_slots.specs.Views.{HoldsNothing};
