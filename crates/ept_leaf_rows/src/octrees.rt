@@ -34,7 +34,8 @@ pub(crate) fn answer(
     }
 }
 
-// `octree new CUBE THRESHOLD MOST CACHE`: how many nodes a new octree has, how many of them may be in memory, and their keys.
+// `octree new CUBE THRESHOLD MOST CACHE`: how many nodes a new octree has, how many of them may be in memory, and their
+// keys.
 fn new(alloc: Global, words: &mut Words<'_>, out: &mut String) -> Result<(), Miss> {
     let rules = rules_of(words)?;
     let most = words.number::<u32>()?;

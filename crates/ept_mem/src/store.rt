@@ -143,7 +143,8 @@ fn crash_behind(mut calls: Vec<Call>, how: Crash) -> Vec<Call>
 }
 
 impl MemStore {
-    /// A settled store of these files, of which the first of a name counts. Its calls of these numbers fail.
+    /// A settled store of these files, whose calls of these numbers fail. If a name occurs more than once, its first
+    /// file counts.
     pub fn new(alloc: Global, files: Vec<(String, Vec<u8>)>, fails: Vec<u64>) -> Self
         ensures files { store_files result ≡ content_of files.items }
         ensures settled { IsSettled (Some (store_files result)) (store_images result) }

@@ -38,7 +38,7 @@ fn write_signed(n: i64, places: u8, text: &mut [u8; 24]) -> usize
     start
 }
 
-// The same of the whole part, the point and the fraction.
+// The same for the whole part, the point and the fraction.
 fn write_scaled(magnitude: u64, places: u8, text: &mut [u8; 24]) -> usize
     requires { places ≤ 9 }
     ensures written { drop result text.new ≡ scaled_text magnitude places }
@@ -53,7 +53,7 @@ fn write_scaled(magnitude: u64, places: u8, text: &mut [u8; 24]) -> usize
     write_digits(magnitude / unit, text, point)
 }
 
-// The same of the point and the fraction, which is below 10^`places`.
+// The same for the point and the fraction, which is below 10^`places`.
 fn write_fraction(fraction: u64, places: u8, text: &mut [u8; 24]) -> usize
     requires some { 1 ≤ places }
     requires most { places ≤ 9 }

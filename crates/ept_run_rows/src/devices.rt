@@ -88,7 +88,7 @@ impl SpillFile for RowSpill {
     }
 }
 
-/// A room for such files, which counts what the files that it took back were asked to keep.
+/// A room for such files. It counts what the files that were returned to it were asked to keep.
 #[derive(Drop)]
 pub(crate) struct RowRoom {
     room: MemRoom,

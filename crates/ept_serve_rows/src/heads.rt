@@ -109,8 +109,8 @@ pub(crate) fn depths(text: &str, answer: &mut String) -> Result<(), RowError> {
     Ok(())
 }
 
-/// `answer json LENGTH END`, `answer binary LENGTH END`, `answer query END` or `answer refuse STATUS END`, with `last` or
-/// `open` for END: the head that `response_head` writes.
+/// `answer json LENGTH END`, `answer binary LENGTH END`, `answer query END` or `answer refuse STATUS END`, with `last`
+/// or `open` for END: the head that `response_head` writes.
 pub(crate) fn answer_head(text: &str, answer: &mut String) -> Result<(), RowError> {
     let kind = kind_of(text)?;
     let mut into = [0; 256];

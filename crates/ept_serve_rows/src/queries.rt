@@ -36,8 +36,8 @@ pub(crate) fn query_row(
     ask(alloc, &mut store, &question, &mut sink, answer)
 }
 
-/// `select BOX DEPTHS CLASSES TIME DIMS STORE SINK`: the number of points that pass or the refusal, and the bytes that were
-/// written.
+/// `select BOX DEPTHS CLASSES TIME DIMS STORE SINK`: the number of points that pass or the refusal, and the bytes that
+/// were written.
 pub(crate) fn select_row(
     alloc: Global,
     folder: &Folder,

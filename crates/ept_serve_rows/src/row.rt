@@ -47,7 +47,7 @@ pub(crate) fn number(word: &str) -> Result<u64, RowError> {
     word.parse::<u64>().map_err(|_| RowError::Form)
 }
 
-/// The number of a word, of 32 bits.
+/// The number of a word, below 2^32.
 pub(crate) fn small(word: &str) -> Result<u32, RowError> {
     word.parse::<u32>().map_err(|_| RowError::Form)
 }

@@ -29,7 +29,7 @@ static ROWS: [Row; 12] = [
         b"HTTP/1.1 200 OK\r\nContent-Type: application/octet-stream\r\nConnection: close\r\n",
         b"\0\0\0",
     ),
-    // A query of two points, of one, and of none.
+    // Queries of two points, of one, and of none.
     (
         b"GET /query?box=0,0,0,7,7,7&depths=0,2 HTTP/1.1\r\nHost: a\r\n\r\n",
         b"HTTP/1.1 200 OK\r\nContent-Type: application/octet-stream\r\nTransfer-Encoding: chunked\r\n",
