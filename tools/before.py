@@ -80,7 +80,7 @@ def refusal_faults(folder):
 
 
 class Whole:
-    """What a build anew leaves of a configuration."""
+    """What a new build leaves of a configuration."""
 
     def __init__(self, case, config, folder):
         folder.mkdir()
@@ -109,7 +109,7 @@ def stopped_faults(case, files):
 
 
 def ended_faults(case, folder, whole, line, status):
-    """What a build that ended by itself did not leave as a build anew does."""
+    """What a build that ended by itself did not leave as a new build does."""
     files = files_of(folder / "out")
     faults = [] if (line, status) == (whole.line, 0) else [f"status {status}, {line!r}, and not {whole.line!r}"]
     names = sorted(name for name in files.keys() | whole.files.keys()

@@ -68,7 +68,7 @@ def points_of_survey():
 
 
 def reader():
-    """QGIS's library, installed where it is not there; None where it can't be had."""
+    """QGIS's library, installed if it is missing; `None` if it can't be had."""
     os.environ.setdefault("QT_QPA_PLATFORM", "offscreen")
     for attempt in range(2):
         try:
@@ -83,8 +83,8 @@ def reader():
 
 
 def found_by(core, where, config=CONFIG, names=NAMES):
-    """What the reader finds at a path or an address: facts of the layer, and all points with their places in stored units
-    and these attributes."""
+    """What the reader finds at a path or an address. That is facts of the layer, and all points with their places in stored
+    units and these attributes."""
     layer = core.QgsPointCloudLayer(str(where), "survey", "ept")
     if not layer.isValid():
         return {"valid": False}, Counter()

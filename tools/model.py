@@ -243,7 +243,7 @@ def packed(point):
 
 
 def read_tile(data):
-    """The points of a tile, each with its packed form; None where the bytes are no tile."""
+    """The points of a tile, each with its packed form; `None` if the bytes are no tile."""
     if len(data) % 53:
         return None
     points = []
@@ -455,7 +455,7 @@ def model(config, files):
 
 
 def trial(count):
-    """The line of a trial of so many generated points."""
+    """The line of a trial of this number of generated points."""
     number, points = count, []
     for at in range(count):
         place = []

@@ -39,7 +39,7 @@ def child(key, octant):
 
 
 class Folder:
-    """A folder whose build file and hierarchy are of their form."""
+    """A folder whose build file and hierarchy are well-formed."""
 
     def __init__(self, files):
         self.files = files
@@ -136,7 +136,7 @@ class Folder:
         return next((number for number, applies in faults.items() if applies(key, points)), 0)
 
     def judge(self):
-        """The first node with which something is wrong, and the number of it; None if there is none."""
+        """The first node with which something is wrong, and the number of it; `None` if there is none."""
         for key in sorted(self.counts):
             if key != ROOT and above(key)[0] not in self.counts:
                 return key, 1

@@ -36,7 +36,7 @@ SELECT = re.compile(rb"/select\?" + POINTS + rb"&classes=([^&]*)&time=([^&]*)&di
 # ---- requests
 
 def head_of(data):
-    """Method, target, minor version and fields of a head; None where the bytes are none."""
+    """Method, target, minor version and fields of a head; `None` if the bytes are no head."""
     found = HEAD.fullmatch(data)
     if not found:
         return None
@@ -66,7 +66,7 @@ def closes(fields):
 
 
 def is_served(name):
-    """Whether a file of this name is handed out where it is there."""
+    """Whether a file of this name is served if it is there."""
     tile = re.fullmatch(r"ept-data/([-\d]{7,40})\.bin|ept-hierarchy/([-\d]{7,40})\.json", name, re.ASCII)
     return name in TEXTS or tile is not None and model_query.read_key(tile[1] or tile[2]) is not None
 
@@ -86,7 +86,7 @@ def asked_by(target):
 
 
 def judged(data):
-    """What the bytes of a head ask for, and whether the connection ends behind the answer."""
+    """What the bytes of a head ask for, and whether the connection ends after the response."""
     head = head_of(data)
     if head is None:
         return 400, True
@@ -103,7 +103,7 @@ def judged(data):
 # ---- responses
 
 def answer_head(status, kind, last, length):
-    """The head of an answer; a length of None is a body in chunks."""
+    """The head of a response; a length of None is a body in chunks."""
     lines = [f"HTTP/1.1 {status} {PHRASES[status]}"]
     lines += ["Allow: GET"] if status == 405 else []
     lines += [f"Content-Type: application/{kind}"] if kind else []
@@ -125,7 +125,7 @@ class Folder:
         self.known = {}
 
     def answer(self, asked, last):
-        """The bytes of an answer, and whether the connection goes on behind it."""
+        """The bytes of a response, and whether the connection continues after it."""
         if (asked, last) not in self.known:
             self.known[asked, last] = self.answer_of(asked, last)
         return self.known[asked, last]
@@ -142,7 +142,7 @@ class Folder:
         return answer_head(200, kind, last, len(content)) + content, not last
 
     def query(self, area, depths, sift, last):
-        """The answer to a query or a selection: a chunk for each tile that has points of it, up to one that is damaged."""
+        """The response to a query or a selection: a chunk for each tile that has points of it, up to one that is damaged."""
         try:
             tiles = model_query.plan(self.files, area, depths)
         except model_query.Damaged:
@@ -166,7 +166,7 @@ def read_folder(out):
 
 
 class Connection:
-    """A connection over a folder: bytes are fed, however they are cut, and the answers to them come."""
+    """A connection over a folder: bytes are fed, however they are cut, and the responses to them come."""
 
     def __init__(self, folder):
         self.folder = folder
@@ -174,7 +174,7 @@ class Connection:
         self.turns, self.ended = 0, False
 
     def feed(self, data):
-        """What is sent for these bytes behind those before."""
+        """What is sent for these bytes after those before."""
         self.data += data
         sent = []
         while (part := self.next()) is not None:
@@ -182,7 +182,7 @@ class Connection:
         return b"".join(sent)
 
     def next(self):
-        """The answer to the next turn; None where there is none."""
+        """The response to the next turn; `None` if there is none."""
         if self.ended:
             return None
         end = self.data.find(b"\r\n\r\n", self.at, self.at + MOST_HEAD)

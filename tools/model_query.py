@@ -24,7 +24,7 @@ WIDTHS = {"X": 4, "Y": 4, "Z": 4} | {name: size for name, _, size in model.DIMEN
 
 
 class Damaged(Exception):
-    """A file that a query needs is not of its form; the bytes before it."""
+    """A file that a query needs is malformed; the bytes before it."""
 
     def __init__(self, name, written=b""):
         super().__init__(name)
@@ -32,7 +32,7 @@ class Damaged(Exception):
 
 
 def as_object(data):
-    """The members of a JSON object, in the order of their names' bytes; None where the bytes are none."""
+    """The members of a JSON object, in the order of their names' bytes; `None` if the bytes are no object."""
     def refused(_):
         raise ValueError
 
@@ -44,7 +44,7 @@ def as_object(data):
 
 
 def read_build_json(data):
-    """What `ept-build.json` says; None where no build has these very bytes."""
+    """What `ept-build.json` says; `None` if no build has these very bytes."""
     value = as_object(data) if data is not None else None
     if value is None or [key for key in value if key not in OPTIONAL_KEYS] != BUILD_KEYS:
         return None
@@ -56,14 +56,14 @@ def read_build_json(data):
 
 
 def read_key(text):
-    """The key of a text; None where it is no key's."""
+    """The key of a text; `None` if it is no key's."""
     found = re.fullmatch(r"(0|[1-9]\d?)-(0|[1-9]\d*)-(0|[1-9]\d*)-(0|[1-9]\d*)", text, re.ASCII)
     key = tuple(map(int, found.groups())) if found else None
     return key if key and key[0] <= 31 and all(n < 2 ** key[0] for n in key[1:]) else None
 
 
 def read_hierarchy(data):
-    """The entries of a hierarchy file; None where it is none."""
+    """The entries of a hierarchy file; `None` if it is none."""
     value = as_object(data) if data is not None else None
     if value is None:
         return None
@@ -79,7 +79,7 @@ def is_within(key, top):
 
 
 def is_file_of(entries, top, step, deepest):
-    """Whether entries are of the form of the hierarchy file of this key."""
+    """Whether entries are those of a well-formed hierarchy file of this key."""
     if entries.get(top, -1) == -1 or any(not is_within(key, top) or key[0] > deepest for key in entries):
         return False
     return all((count == -1) == (bool(step) and key[0] == top[0] + step) and (not step or key[0] <= top[0] + step)
@@ -116,7 +116,7 @@ def counts_of(files, kept, cube, area):
 
 
 def plan(files, area, depths):
-    """The keys of the tiles that a query reads, in order, each with its count; a file that is not of its form is told."""
+    """The keys of the tiles that a query reads, in order, each with its count; a malformed file is reported."""
     kept = read_build_json(files.get("ept-build.json"))
     if kept is None:
         raise Damaged("ept-build.json")
@@ -127,7 +127,7 @@ def plan(files, area, depths):
 
 
 def points_in(files, key, count, area):
-    """The packed points of a tile of a plan that lie in the area; a tile that is not of its form is told."""
+    """The packed points of a tile of a plan that lie in the area; a malformed tile is reported."""
     name = "ept-data/%s.bin" % model.key_text(key)
     points = model.read_tile(files[name]) if name in files else None
     if points is None or len(points) != count:
@@ -138,7 +138,7 @@ def points_in(files, key, count, area):
 # ---- selections
 
 def read_classes(text):
-    """The classes of a text in a tuple, which is empty for any; None where the text is of no form."""
+    """The classes of a text in a tuple, which is empty for any; `None` if the text is malformed."""
     if text == "-":
         return ()
     if not re.fullmatch(r"(?:0|[1-9]\d{0,2})(?:,(?:0|[1-9]\d{0,2}))*", text, re.ASCII):
@@ -148,20 +148,20 @@ def read_classes(text):
 
 
 def read_time(text):
-    """The bytes of the time of a text, none for any; None where the text is of no form."""
+    """The bytes of the time of a text, none for any; `None` if the text is malformed."""
     if text == "-":
         return b""
     return bytes.fromhex(text) if re.fullmatch(r"[0-9a-f]{16}", text, re.ASCII) else None
 
 
 def read_dims(text):
-    """The names of the dimensions of a text; None where the text is of no form."""
+    """The names of the dimensions of a text; `None` if the text is malformed."""
     names = tuple(WIDTHS) if text == "-" else tuple(text.split(","))
     return names if len(set(names)) == len(names) and set(names) <= set(WIDTHS) else None
 
 
 def read_sift(classes, time, dims):
-    """The selection that three texts ask for; None where one of them is of no form."""
+    """The selection that three texts ask for; `None` if one of them is malformed."""
     sift = read_classes(classes), read_time(time), read_dims(dims)
     return None if None in sift else sift
 
@@ -186,7 +186,7 @@ def sifted(sift, data):
 
 
 def answer(files, area, depths, sift=None):
-    """The packed points of a query, or what a selection keeps of them; a file that is not of its form is told."""
+    """The packed points of a query, or what a selection keeps of them; a malformed file is reported."""
     written = b""
     for key, count in plan(files, area, depths):
         try:

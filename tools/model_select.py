@@ -35,7 +35,7 @@ class Sift:
 
 
 def read_classes(text):
-    """The numbers in a text, which ascend; None where they are not of that form."""
+    """The numbers in a text, which ascend; `None` if the text is malformed."""
     words = text.split(",")
     if not all(re.fullmatch("0|[1-9][0-9]{0,2}", word, re.ASCII) for word in words):
         return None
@@ -44,18 +44,18 @@ def read_classes(text):
 
 
 def read_time(text):
-    """The bytes of a text of 16 digits; None where it is not of that form."""
+    """The bytes of a text of 16 digits; `None` if it is malformed."""
     return bytes.fromhex(text) if re.fullmatch("[0-9a-f]{16}", text, re.ASCII) else None
 
 
 def read_dims(text):
-    """The names in a text, none of them twice; None where it is not of that form."""
+    """The names in a text, none of them twice; `None` if it is malformed."""
     names = text.split(",")
     return names if set(names) <= set(NAMES) and len(set(names)) == len(names) else None
 
 
 def read_sift(classes, time, dims):
-    """The selection that three texts ask for; None where one of them is not of its form."""
+    """The selection that three texts ask for; `None` if one of them is malformed."""
     asked = [read(text) if text != ANY else default for read, text, default in
              ((read_classes, classes, ()), (read_time, time, ()), (read_dims, dims, NAMES))]
     return None if None in asked else Sift(*(None if part == () else part for part in asked))

@@ -44,12 +44,12 @@ class Fields:
         return value
 
     def number(self, width, least=0, most=None, signed=False):
-        """A number of so many bytes within its range."""
+        """A number of this many bytes within its range."""
         return self.take(width, lambda n: least is None or least <= n and (most is None or n <= most),
                          lambda piece: int.from_bytes(piece, "little", signed=signed))
 
     def near(self, most):
-        """Three numbers of 64 bits, each up to so much either way."""
+        """Three numbers of 64 bits, each up to a limit either way."""
         return [self.number(8, -most, most, signed=True) for _ in range(3)]
 
     def box(self, outer=None):
@@ -129,7 +129,7 @@ def masks_of(keys):
 
 
 def is_tree(lines, inserted):
-    """Whether lines are the nodes of a whole tree with so many points."""
+    """Whether lines are the nodes of a whole tree with this number of points."""
     keys = [key for key, _ in lines]
     masks = masks_of(keys)
     return (keys[:1] == [(0, 0, 0, 0)] and all(a < b for a, b in zip(keys, keys[1:])) and set(masks) <= set(keys)
@@ -193,7 +193,7 @@ def old_tile(points):
 
 
 def widened(data):
-    """The tile in the new layout of the same points as one in the old; None where its length is no multiple of 49."""
+    """The tile in the new layout of the same points as one in the old; `None` if its length is not a multiple of 49."""
     return None if len(data) % 49 else b"".join(data[at:at + 49] + bytes(4) for at in range(0, len(data), 49))
 
 
@@ -253,7 +253,7 @@ def sampled(kept, points):
 
 
 def lines_of(nodes):
-    """What a checkpoint says of nodes, but for the letters."""
+    """What a checkpoint says of nodes, except for the letters."""
     masks = masks_of(nodes)
     return {key: (len(points), masks[key]) for key, points in nodes.items()}
 
@@ -293,7 +293,7 @@ def checkpoint_faults(files, checkpoint, nodes):
 
 
 def output_faults(files, checkpoint, points, names):
-    """What of the output files can't be there beside this checkpoint."""
+    """What of the output files can't be there next to this checkpoint."""
     kept = checkpoint["kept"]
     nodes, cube = sampled(kept, points)
     wanted = model.output(kept, checkpoint["counts"], kept["bounds"], nodes, cube)
@@ -320,7 +320,7 @@ def differing(kept, given):
 
 
 def loaded(files, checkpoint, most):
-    """The points of a checkpoint's tiles, loaded in key order into at most so many nodes."""
+    """The points of a checkpoint's tiles, loaded in key order into at most `most` nodes."""
     points = []
     for number, key in enumerate(sorted(checkpoint["nodes"])):
         if number >= most:
@@ -341,8 +341,8 @@ def new_points(given, config, shelf, first, bounds):
 def build_on(files, text, shelf):
     """What a build on a sound folder ends with: line, status, and what it leaves.
 
-    What it leaves is None where nothing is put; else the checkpoint without letters, the output files (None where
-    they stay as they were) and whether the done gate is open.
+    What it leaves is None if nothing is put. Otherwise it is the checkpoint without letters, the output files, and whether
+    the done gate is open. The output files are None if they stay as they were.
     """
     try:
         given = model.read_config(text)
@@ -365,7 +365,7 @@ def build_on(files, text, shelf):
 
 
 def taken_over(before):
-    """The checkpoint from which the phases go on: the next one of the same points, if this one's tiles are of the old layout."""
+    """The checkpoint from which the phases resume: the next one of the same points, if this one's tiles are of the old layout."""
     if before is None or before["version"] != OLD:
         return before
     turned = {key: (count, mask, 1 - letter) for key, (count, mask, letter) in before["nodes"].items()}
@@ -383,7 +383,7 @@ def left_points(kept, before, sources, shelf):
 
 
 def phases(kept, counts, points, every, start, before, is_new):
-    """The end of a build that inserts the rest of these points, so many in a phase."""
+    """The end of a build that inserts the rest of these points, this number in a phase."""
     generation, at, total = before["generation"] if before else 0, start, len(points)
     nodes, cube = sampled(kept, points[:at])
     left = before
@@ -399,7 +399,7 @@ def phases(kept, counts, points, every, start, before, is_new):
 
 
 def same_checkpoint(one, other):
-    """Whether two checkpoints say the same, but for the letters of their tiles."""
+    """Whether two checkpoints say the same, except for the letters of their tiles."""
     if one is None or other is None:
         return one is other
     plain = lambda c: (c["version"], c["generation"], model.build_text(c["kept"], c["kept"]["bounds"]), c["counts"], c["inserted"],

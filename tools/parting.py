@@ -72,8 +72,8 @@ def gather(source, octants, out):
 
 
 def build_differences(found, whole):
-    """What of a merged folder is not what one build leaves: each file of the output byte for byte, the done gate, what the
-    checkpoint says except for its generation and letters, and the tiles that it names."""
+    """What of a merged folder is not what one build leaves. Each file of the output is compared byte for byte, then the done
+    gate. What the checkpoint says is compared except for its generation and letters, and so are the tiles that it names."""
     outputs = [{name: data for name, data in files.items() if model_work.is_output_name(name)} for files in (found, whole)]
     names = sorted(name for name in set().union(*outputs) if outputs[0].get(name) != outputs[1].get(name))
     faults = [f"{len(names)} files differ, as {names[0]}"] if names else []

@@ -68,8 +68,8 @@ def wait_for(port, process, seconds=10):
 
 
 def start(out, descriptors=None, single=False, logs=None):
-    """Starts the server, with so many descriptors at most, on a single thread and with a line a request in the file
-    `logs` if asked to, and waits until it listens."""
+    """Starts the server, and waits until it listens. If asked to, it has at most this number of descriptors, a single thread,
+    and a line a request in the file `logs`."""
     def limit():
         if descriptors:
             resource.setrlimit(resource.RLIMIT_NOFILE, (descriptors, descriptors))
@@ -95,7 +95,7 @@ def taken(pid):
 # ---- other servers
 
 def installed(program, package):
-    """The path of a program, installed from the system's packages where it is not there; None where it can't be had."""
+    """The path of a program, installed from the system's packages if it is missing; `None` if it can't be had."""
     for attempt in range(2):
         path = shutil.which(program, path=os.environ["PATH"] + ":/usr/sbin")
         if path or attempt:

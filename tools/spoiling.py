@@ -65,7 +65,7 @@ def recounted(files, counts):
 
 
 def with_tiles(files, tiles, lot):
-    """Other points in some tiles. The hierarchy counts them, but for one time in five."""
+    """Other points in some tiles. The hierarchy counts them, except for one time in five."""
     tiles = {key: [point["packed"] if isinstance(point, dict) else point for point in points] for key, points in tiles.items()}
     changed = {tile_name(key): tile_of(points) for key, points in tiles.items()}
     counts = counts_of(files) | {key: len(points) for key, points in tiles.items()}
@@ -154,7 +154,7 @@ def distance(one, other):
 
 
 def sink_winner(lot, files):
-    """The best point of a cell, two or more nodes above a node, in the place of one of that node that is next in the cell."""
+    """Exchanges the best point of a cell with the next one of that cell, in a node two or more nodes below."""
     folder = model_check.Folder(files)
     points = {key: folder.points_of(key) for key in keys_of(files)}
     bests = {key: folder.best(key[0], those) for key, those in points.items()}
@@ -282,7 +282,7 @@ def move_far(lot, files):
 
 
 def lose_file(lot, files):
-    """A file of the output that is absent, cut or longer."""
+    """A file of the output that is missing, cut or longer."""
     name = lot.choice(lot.choice([[name for name in files if name.startswith(front)] or ["ept-build.json"]
                                   for front in ("ept-data/", "ept-hierarchy/", "ept-build.json", model_query.DONE)]))
     return {name: lot.choice([None, files[name][:-1], files[name] + b"0", files[name] + files[name][-LENGTH:]])}

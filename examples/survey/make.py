@@ -3,10 +3,10 @@
 
 Usage: examples/survey/make.py        (writes next to itself)
 
-Two flights of format 3 (LAS 1.2, GPS time and colour) and two of format 7 (LAS 1.4) cover a field of 200 by
-200 metres. Each covers a quarter, with an overlap. The first two hold coordinates in centimetres from the corner of the
+Four flights cover a field of 200 by 200 metres. Two have format 3 (LAS 1.2, GPS time and colour), and two have
+format 7 (LAS 1.4). Each covers a quarter, with an overlap. The first two hold coordinates in centimetres from the corner of the
 field; the last two in decimetres from their own corner. Their headers say so, with offsets, scales, extents and
-the reference system, as any reader of LAS files takes them.
+the reference system, as any reader of LAS files expects.
 """
 
 import json
@@ -67,7 +67,7 @@ def well_known_text():
 
 
 def header(minor, size, form, length, unit, corner, places, reference):
-    """A public header block over these raw places, and the record on the reference system behind it."""
+    """A public header block over these raw places, and the record on the reference system after it."""
     block = bytearray(size)
     block[0:4] = b"LASF"
     # Bit 4 says that the reference system is a text.

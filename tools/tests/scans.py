@@ -14,7 +14,7 @@ RECORDS = {
 
 
 def record_by_lot(lot, form, place):
-    """A record at this raw place, all else by lot; each point is one of one to four returns."""
+    """A record at this raw place, all else random; each point is one of one to four returns."""
     u8, u16 = (lambda: lot.randrange(256)), (lambda: lot.randrange(65536))
     returns = lot.randint(1, 4)
     which = lot.randint(1, returns)
@@ -27,7 +27,7 @@ def record_by_lot(lot, form, place):
 
 
 def las(records, form, minor=None, scale=0.01, offset=(0.0, 0.0, 0.0), vlrs=b"", count=None):
-    """A LAS file of these records: its header tells their number and where they lie."""
+    """A LAS file of these records: its header states their number and where they lie."""
     minor = (4 if form >= 6 else 2) if minor is None else minor
     size = LEAST_HEADER[minor]
     head = bytearray(size)
@@ -44,7 +44,7 @@ def las(records, form, minor=None, scale=0.01, offset=(0.0, 0.0, 0.0), vlrs=b"",
 
 
 def las_by_lot(seed, form, count, reach=1000, **header):
-    """A LAS file of points by lot, up to `reach` raw units from the raw 0 on each axis."""
+    """A LAS file of random points, up to `reach` raw units from the raw 0 on each axis."""
     lot = random.Random(seed)
     places = [[lot.randint(-reach, reach) for _ in range(3)] for _ in range(count)]
     return las([record_by_lot(lot, form, place) for place in places], form, **header)

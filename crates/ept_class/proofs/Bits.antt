@@ -1,4 +1,4 @@
--- Lists of bytes, of which each bit is a member.
+-- Lists of bytes, each bit of which is a member.
 use Rattle.std.proofs.Common.{◌≡◌, ℕ, zero, suc, bit_and, ◌+◌, ◌*◌, ◌/◌, ◌%◌, ◌^◌, ◌<◌, ◌||◌, ◌&&◌, Bool, true, false, not, eqb, bit_or, ◌⊎◌, inl, inr, List, [], ◌∷◌, length, get_or, slice_set, refl, sym, ap, ◌∙◌, arith, w8}
 use Rattle.std.specs.Bool.{Decides}
 use Rattle.std.specs.Int.{bit_at}
@@ -122,7 +122,7 @@ classes_have_a_set classes small =
 
 -- ---- some member
 
--- of the lowest bits of a byte one is set, or none is
+-- among the lowest bits of a byte one is set, or none is
 some-bit : (byte n : ℕ) → ((i : ℕ) × (bit_at byte i ≡ 1) × (i < n)) ⊎ ((i : ℕ) → i < n → bit_at byte i ≡ 0)
 some-bit byte zero = inr (λ i h. absurd (omega arith))
 some-bit byte (suc n) =
@@ -222,6 +222,6 @@ or-bytes (b ∷ bytes) a = or-bytes bytes (bit_or a b) ∙ by (eqb (bit_or a b) 
     by both false true any e = rw e refl
     by both false false any e = rw e refl
 
--- they are 0 where no byte is another number
+-- they are 0 if no byte is another number
 pub or-none : (bytes : List ℕ) → eqb (fold bit_or 0 bytes) 0 ≡ not (list_any (λ byte. not (eqb byte 0)) bytes)
 or-none bytes = or-bytes bytes 0

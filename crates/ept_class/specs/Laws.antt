@@ -12,6 +12,6 @@ abbrev pub ClassesHaveASet : Type 0
 ClassesHaveASet =
     (classes : List ℕ) → AllByRecursion (λ class. class < 256) classes → (set : ClassSet) × ((class : ℕ) → has_class set class ≡ list_any (λ member. class == member) classes)
 
--- a set has a member exactly where some class is one
+-- a set has a member if and only if some class is one
 abbrev pub AMemberIsAClass : Type 0
 AMemberIsAClass = (set : ClassSet) → IsTrue (has_member set) ↔ ((class : ℕ) × IsTrue (has_class set class))

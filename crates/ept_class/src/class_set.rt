@@ -5,8 +5,8 @@ ghost use Rattle.ept_class.specs.Bytes.{AreSetBytes};
 /// How many bytes a set takes: a bit for each class.
 pub const SET_LENGTH: usize = 32;
 
-/// A set of classes, each a number from 0 to 255. A class `c` is a member where the bit `c % 8` of the
-/// byte `c / 8` is set.
+/// A set of classes, each a number from 0 to 255. A class `c` is a member if the bit `c % 8` of the byte `c / 8` is
+/// set.
 #[derive(Clone, Copy, Debug, PartialEq, Eq)]
 pub struct ClassSet {
     pub bytes: [u8; SET_LENGTH],

@@ -2,8 +2,8 @@
 
 ghost use Rattle.ept_class.specs.Laws.{MembersMakeTheSet, ClassesHaveASet, AMemberIsAClass};
 
-/// Two sets with the same members are the same set, any classes are the members of one, and a set that
-/// is not empty has a member.
+/// Two sets with the same members are the same set. Any classes are the members of a set. A set that is not empty has a
+/// member.
 pub fn class_set_law()
     ensures once { MembersMakeTheSet }
     ensures each { ClassesHaveASet }

@@ -1,10 +1,10 @@
-//! A hand that goes round.
+//! A hand that goes around.
 
 ghost use Rattle.std.specs.Prelude.{◌≡◌, ◌<◌, ◌≤◌, ◌↔◌, [], IfSome, IsNone, length, slice_index};
 ghost use Rattle.std.specs.List.Sorted.{IsNonDecreasing};
 ghost use Rattle.ept_clock.specs.Turns.{NoneBehind};
 
-/// A hand that goes round the slots of the resident nodes, whichever these are at the moment.
+/// A hand that goes around the slots of the resident nodes, whichever these are at the moment.
 #[derive(Clone, Copy, Debug, PartialEq, Eq)]
 pub struct Clock {
     hand: u32,
@@ -13,15 +13,15 @@ pub struct Clock {
 impl Clock {
     ghost use Rattle.ept_clock.specs.Turns.{hand_of, IsTurn};
 
-    /// A hand that stands in front of the first slot.
+    /// A hand before the first slot.
     pub fn new() -> Clock
         ensures { hand_of result ≡ 0 }
     {
         Clock { hand: 0 }
     }
 
-    /// Moves the hand to the next of the resident slots, which ascend: to the first one behind it, or to the front one
-    /// where none is. Answers its place among them, or `None` where there is none. It takes no memory.
+    /// Moves the hand to the next of the resident slots, which ascend. That is the first slot after it, or the first of
+    /// all if none comes after it. Returns its place among them, or `None` if there are no slots. It takes no memory.
     pub fn next(&mut self, resident: &[u32]) -> Option<usize>
         requires { IsNonDecreasing resident.now }
         ensures some { IfSome result (IsTurn (hand_of self.old) resident.now) }
@@ -36,7 +36,7 @@ impl Clock {
     }
 }
 
-// The place of the first slot behind the hand, or that behind all slots.
+// The place of the first slot after the hand, or the place after all slots.
 fn place_behind(hand: u32, resident: &[u32]) -> usize
     requires { IsNonDecreasing resident.now }
     ensures bound { result ≤ length resident.now }

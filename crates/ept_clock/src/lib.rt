@@ -1,4 +1,4 @@
-//! Which of the resident nodes is to be evicted next: a hand that goes round their slots.
+//! Which of the resident nodes is to be evicted next: a hand that goes around their slots.
 #![tactic(auto)]
 
 mod clock;

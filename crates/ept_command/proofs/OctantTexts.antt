@@ -1,4 +1,4 @@
--- The word of octants names one mask at most, and what else it may be.
+-- The word of octants names at most one mask, and what else it may be.
 use Rattle.std.proofs.Common.{◌≡◌, ◌≢◌, ℕ, List, [], ◌∷◌, Option, Some, None, ap, refl, sym, ◌∙◌, subst}
 use Rattle.std.specs.Prelude.{codes, replicate, IfSome, IfNone}
 use Rattle.ept_class.specs.declared.class_set.ClassSet.{ClassSet}

@@ -16,7 +16,7 @@ zip-push R [] (z ∷ zs) x y all is = absurd all
 zip-push R (w ∷ ws) [] x y all is = absurd all
 zip-push R (w ∷ ws) (z ∷ zs) x y all is = (all.0, zip-push R ws zs x y all.1 is)
 
--- ---- one word more
+-- ---- one more word
 
 -- the words so far list these octants, and the next one these
 pub list-more : (texts : List (String Global)) (masks : List ℕ) (i : ℕ) (text : String Global) (octants : ℕ) → i < length texts → text ≡ get_or texts i text → i < length masks
@@ -28,7 +28,7 @@ list-more texts masks i text octants below is room listed mine =
     subst (λ (w : List ℕ). AllZip IsOctantsText (bytes_of (take (i + 1) texts)) w) (sym (take_more_set masks i octants room))
     (subst (λ (w : List (List ℕ)). AllZip IsOctantsText w (take i masks ++ octants ∷ [])) (sym bytes) (zip-push IsOctantsText (bytes_of (take i texts)) (take i masks) (string_bytes text) octants listed mine))
 
--- a word that lists none is none of words that do
+-- a word that lists no octants is not among words that do
 pub list-none : (texts : List (String Global)) (i : ℕ) (text : String Global) → i < length texts → text ≡ get_or texts i text → ((octants : ℕ) → ¬ IsOctantsText (string_bytes text) octants) → (masks : List ℕ) → ¬ AllZip IsOctantsText (bytes_of texts) masks
 list-none texts i text below is none masks listed = by (zip-at texts i text below masks listed)
   where

@@ -6,12 +6,12 @@ use Rattle.ept_config_text.specs.declared.config_error.ConfigError.TheVariants a
 use Rattle.ept_command.specs.declared.refusal.Refusal.{Refusal}
 use Rattle.ept_command.specs.declared.refusal.Refusal.TheVariants.{BadConfiguration, SourceFault, Memory}
 
--- of a file that is opened and read
+-- the refusals of a file that is opened and read
 abbrev pub of_get : GetError → Refusal
 of_get get.Failed = SourceFault
 of_get get.Memory = Memory
 
--- of a configuration
+-- the refusals of a configuration
 abbrev pub of_config : ConfigError → Refusal
 of_config config.Json = BadConfiguration config.Json
 of_config config.Unknown = BadConfiguration config.Unknown

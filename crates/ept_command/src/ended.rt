@@ -11,7 +11,7 @@ use ept_space::Key;
 pub struct Ended {
     /// The status with which the program ends.
     pub status: u8,
-    /// Why the status is not 0; none at status 0.
+    /// Why the status is not 0. `None` if it is 0.
     pub failure: Option<Failure>,
 }
 
@@ -26,11 +26,11 @@ pub enum Failure {
     MergeRefused(MergeRefusal),
     /// A query is refused, or a selection.
     QueryRefused(QueryError),
-    /// A dataset was checked, and this is wrong with the node of this key, the first one with which anything is.
+    /// A dataset was checked, and this is wrong with the node of this key, the first node that has a fault.
     Unfit { key: Key, why: Fault },
     /// A dataset could not be checked.
     CheckRefused(CheckError),
-    /// The command is carried out, and its line could not be written: this one, with its line feed.
+    /// The command is carried out, and its line could not be written. This is the line, with its line feed.
     LineNotWritten(Vec<u8>),
 }
 

@@ -9,7 +9,7 @@ use ept_class::{ClassSet, SET_LENGTH, class_set_law};
 use ept_filter::{Dims, read_sift};
 use ept_merge::are_all_parts;
 
-/// The octants that a word lists, bit o for octant o. It lists them as that of a selection lists classes: numbers that
+/// The octants that a word lists, bit o for octant o. They are written as the classes of a selection are: numbers that
 /// ascend, with commas between them.
 pub(crate) fn read_octants(word: &str) -> Option<u8>
     ensures some { IfSome result (IsOctantsText word.now) }
@@ -22,7 +22,7 @@ pub(crate) fn read_octants(word: &str) -> Option<u8>
     octants_of(&numbers)
 }
 
-// A text of classes is that of a selection, at any time and with all dimensions.
+// A text of classes is one of a selection, at any time and with all dimensions.
 fn classes_law()
     ensures { ClassesAreSelected }
 {
@@ -60,7 +60,7 @@ pub(crate) fn read_parts(texts: &[String]) -> Option<Parts>
     Some(parts)
 }
 
-// The octants that each of a few words lists.
+// The octants that each of at most eight words lists.
 fn list_parts(texts: &[String]) -> Option<Parts>
     requires few { length texts.now ≤ 8 }
     ensures some { IfSome result (λ parts. AllZip IsOctantsText (bytes_of texts.now) (masks_in parts)) }

@@ -20,7 +20,7 @@ pub enum Refusal {
     Usage,
     /// The configuration is refused.
     BadConfiguration(ConfigError),
-    /// This input, or the one file whose header is asked for, is no LAS file that can be read.
+    /// This input, or the file whose header is asked for, is not a LAS file that can be read.
     BadLas { source: u32, fault: LasError },
     /// The record of this number of this input is not in stored units, or not within the bounds.
     OutOfBounds { source: u32, number: PointNumber },
@@ -128,7 +128,7 @@ impl Refusal {
 /// Why a part of a build is refused.
 #[derive(Clone, Copy, Debug, PartialEq, Eq)]
 pub enum PartRefusal {
-    /// For a cause for which a build is refused too.
+    /// For a cause for which a build is also refused.
     AsBuild(Refusal),
     /// The greatest depth is 0, so the root has no octants.
     Shallow,
@@ -148,7 +148,7 @@ impl From<Refusal> for PartRefusal {
 /// Why parts of a build are not merged.
 #[derive(Clone, Copy, Debug, PartialEq, Eq)]
 pub enum MergeRefusal {
-    /// For a cause for which a part is refused too.
+    /// For a cause for which a part is also refused.
     AsPart(PartRefusal),
     /// The folder has a checkpoint already.
     HasCheckpoint,

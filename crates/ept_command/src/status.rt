@@ -21,7 +21,7 @@ pub const NOT_COMPLETE: u8 = 6;
 /// The folder of a build was built with another configuration.
 pub const DIFFERS: u8 = 6;
 
-/// The octree of a part, or of a merge, has the root alone, which has no octants.
+/// The octree of a part, or of a merge, has only the root, which has no octants.
 pub const SHALLOW: u8 = 6;
 
 /// The folder of a merge has a checkpoint. Or one of the parts is missing, or was made with another configuration or
@@ -35,5 +35,5 @@ pub const DEVICE: u8 = 7;
 /// the sampling of its own points. Or a spill file returned other bytes than were kept.
 pub const DAMAGED: u8 = 8;
 
-/// There was no memory.
+/// Memory ran out.
 pub const MEMORY: u8 = 9;

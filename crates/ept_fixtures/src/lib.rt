@@ -1,4 +1,5 @@
-//! What tests of several crates begin with: the rules of a small cube, and points of which only the id and the place matter.
+//! What tests of several crates begin with: the rules of a small cube, and points of which only the id and the place
+//! matter.
 #![tactic(auto)]
 
 ghost use Rattle.std.specs.Prelude.{◌≡◌, [], ◌∷◌, pos};
@@ -20,7 +21,8 @@ pub fn small_rules(threshold: u64) -> Rules
     Rules::plain(cube, threshold)
 }
 
-/// The point of this number in the first input, at this place in stored units; it is the only return of its pulse, and all else is 0.
+/// The point of this number in the first input, at this place in stored units. It is the only return of its pulse, and
+/// all else is 0.
 pub fn point(number: PointNumber, place: [i32; 3]) -> Point
     ensures place { result.x ∷ result.y ∷ result.z ∷ [] ≡ place }
     ensures origin { result.origin ≡ 0 }

@@ -3,7 +3,7 @@
 /// Why bytes have no value.
 #[derive(Clone, Copy, Debug, PartialEq, Eq)]
 pub enum JsonError {
-    /// The bytes are the text of no JSON value.
+    /// The bytes are not the text of a JSON value.
     NoText,
     /// Memory ran out.
     Memory,

@@ -9,12 +9,11 @@ use crate::json_error::JsonError;
 use serde_json::{Error, Value};
 use std::alloc::Global;
 
-/// The value that the bytes are the JSON text of (RFC 8259). Of a name that stands twice in an object the
-/// last value counts.
+/// The value whose JSON text the bytes are (RFC 8259). If a name occurs twice in an object, the last value counts.
 ///
 /// # Errors
 ///
-/// `NoText` where the bytes are not UTF-8, or the text of no value, and `Memory` where memory ran out.
+/// `NoText` if the bytes are not UTF-8, or not the text of a value, and `Memory` if memory runs out.
 #[tactic(auto, using(crate::proofs::Documents::document_read, crate::proofs::Documents::document_refused))]
 pub fn document(alloc: Global, bytes: &[u8]) -> Result<Value, JsonError>
     ensures value { IfOk result (λ value. document bytes.now ≡ Some (view value)) }

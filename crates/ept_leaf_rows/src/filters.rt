@@ -8,7 +8,7 @@ use ept_filter::{Sift, SiftError, read_sift, sift_points};
 use std::alloc::Global;
 use std::fmt::Write;
 
-/// Answers a call.
+/// Carries out a call, and writes its result.
 pub(crate) fn answer(
     alloc: Global,
     call: &str,
@@ -40,7 +40,7 @@ fn write_members(set: &ClassSet, out: &mut String) -> Result<(), Miss> {
     Ok(())
 }
 
-// `filter read CLASSES TIME DIMS`: the selection that the texts ask for.
+// `filter read CLASSES TIME DIMS`: the selection of these texts.
 fn read(alloc: Global, words: &mut Words<'_>, out: &mut String) -> Result<(), Miss> {
     match asked(words)? {
         Some(sift) => write_sift(alloc, &sift, out),

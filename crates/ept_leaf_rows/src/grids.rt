@@ -14,7 +14,7 @@ use std::fmt::Write;
 use std::marker::Brand;
 use std::sync::ledger::{Blank, Ledger};
 
-/// Answers a call.
+/// Carries out a call, and writes its result.
 pub(crate) fn answer(
     alloc: Global,
     call: &str,
@@ -30,7 +30,7 @@ pub(crate) fn answer(
     }
 }
 
-// The node without points of the cube, the threshold and the key that are the next three words.
+// The node without points whose cube, threshold and key are the next three words.
 fn grid_of(alloc: Global, words: &mut Words<'_>) -> Result<Grid, Miss> {
     let rules = rules_of(words)?;
     let key = key_of(words.word()?)?;
@@ -50,8 +50,9 @@ fn feed(grid: &mut Grid, point: Point, leaving: &mut Outgoing) -> Result<(), Mis
     Ok(())
 }
 
-// `grid arrive CUBE THRESHOLD KEY POINT POINT ..`: how many points the node has after each arrival, those that it keeps at the
-// end, its open octants, and the points that left for each octant. No point is out once they are cleared.
+// `grid arrive CUBE THRESHOLD KEY POINT POINT ..`: how many points the node has after each arrival, and those that it
+// keeps at the end. Then its open octants, and the points that left for each octant. Once these are cleared, no point
+// is out.
 fn arrive(alloc: Global, words: &mut Words<'_>, out: &mut String) -> Result<(), Miss> {
     let mut grid = grid_of(alloc, words)?;
     let mut leaving = Outgoing::new(alloc);
@@ -89,7 +90,7 @@ fn write_kept(kept: &[Point], mask: u8, out: &mut String) -> Result<(), Miss> {
     Ok(())
 }
 
-/// The points that leave, by octant; those of the octants for which some do.
+/// The points that leave, by octant, without the octants for which none do.
 pub(crate) fn write_leaving(leaving: &Outgoing, out: &mut String) -> Result<(), Miss> {
     part(out)?;
     out.push_str("out")?;
@@ -103,8 +104,8 @@ pub(crate) fn write_leaving(leaving: &Outgoing, out: &mut String) -> Result<(), 
     Ok(())
 }
 
-// `grid count CUBE THRESHOLD KEY POINT POINT ..`: whether the node counts as many points as it gives out, how many these are with
-// those that left, and whether their numbers ascend. The ids may stand twice.
+// `grid count CUBE THRESHOLD KEY POINT POINT ..`: whether the node counts the points that it gives out. Then how many
+// these are with those that left, and whether their numbers ascend. The ids may occur twice.
 fn count(alloc: Global, words: &mut Words<'_>, out: &mut String) -> Result<(), Miss> {
     let mut grid = grid_of(alloc, words)?;
     let mut leaving = Outgoing::new(alloc);
@@ -192,7 +193,7 @@ fn cell_of(word: &str) -> Result<[u32; 3], Miss> {
     Ok([number(x)?, number(y)?, number(z)?])
 }
 
-// The number of the winner of a cell, where the cell lies in the node's box and has one.
+// The number of the winner of a cell, if the cell lies in the node's box and has one.
 fn number_of_winner<L: Ledger>(grid: &Grid, cell: [u32; 3], blank: Blank) -> Option<PointNumber>
     requires name { blank.name ≡ L.name }
     requires parts { blank.parts ≡ L.parts }

@@ -18,7 +18,7 @@ const MOST_FACTOR: i64 = 1_000_000_000;
 
 const MOST_DISTANCE: u64 = 1_000_000_000_000_000;
 
-/// Answers a call.
+/// Carries out a call, and writes its result.
 pub(crate) fn answer(
     alloc: Global,
     call: &str,
@@ -34,9 +34,8 @@ pub(crate) fn answer(
     }
 }
 
-// `las header LENGTH EXPECTED AT=HEX AT=HEX ..`: the header of the first LENGTH of these bytes, which are 0 where no word
-// says otherwise. The scales and offsets are to be bytes of 0 where EXPECTED is `zeros`, and are not looked at where it is
-// `any`.
+// `las header LENGTH EXPECTED AT=HEX AT=HEX ..`: the header of the first LENGTH of these bytes, which are 0 unless a
+// word sets them. If EXPECTED is `zeros`, the scales and offsets have to be bytes of 0. If it is `any`, they are free.
 fn header(alloc: Global, words: &mut Words<'_>, out: &mut String) -> Result<(), Miss> {
     let len = words.number::<usize>()?;
     let expected = match words.word()? {

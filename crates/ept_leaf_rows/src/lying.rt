@@ -1,10 +1,10 @@
-//! A spill file that gives back what it likes.
+//! A spill file that returns what it likes.
 
 ghost use Rattle.std.specs.Prelude.{None, ℕ, List, Option};
 
 use ept_base::{Failed, PutError, SpillFile};
 
-/// A spill file that tells nothing, says that it has so many bytes, and gives back this one in place of each.
+/// A spill file whose contents are not visible. It reports `found` bytes, and returns one byte in place of each.
 #[derive(Debug, Drop)]
 pub(crate) struct Lying {
     found: usize,

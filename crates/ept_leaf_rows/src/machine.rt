@@ -12,7 +12,7 @@ use ept_space::{Cube, Key, Rules};
 use std::alloc::Global;
 use std::fmt::Write;
 
-/// Answers a call.
+/// Carries out a call, and writes its result.
 pub(crate) fn answer(
     alloc: Global,
     call: &str,
@@ -27,7 +27,7 @@ pub(crate) fn answer(
     }
 }
 
-// The core of the cube, the threshold and the number of actors that are the next words, and of these points.
+// The core whose cube, threshold and number of actors are the next words, with these points.
 fn core_of(alloc: Global, words: &mut Words<'_>, points: &str) -> Result<Core, Miss> {
     let rules = rules_of(words)?;
     let actors = words.number()?;
@@ -63,8 +63,8 @@ fn event_of_actor(kind: &str, rest: &str) -> Result<Event, Miss> {
     }
 }
 
-// `core steps CUBE THRESHOLD ACTORS EVENT EVENT .. / POINT POINT ..`: what each event answers, with `finished` behind it where
-// the core is finished then, and the nodes at the end.
+// `core steps CUBE THRESHOLD ACTORS EVENT EVENT .. / POINT POINT ..`: the result of each event, and the nodes at the
+// end. `finished` follows a result if the core is finished then.
 fn steps(alloc: Global, words: &mut Words<'_>, out: &mut String) -> Result<(), Miss> {
     let (first, points) = parted(words.rest(), " /")?;
     let mut words = Words::of(first);
@@ -94,8 +94,8 @@ fn step(core: &mut Core, event: Event, out: &mut String) -> Result<(), Miss> {
     Ok(())
 }
 
-// `core run CUBE THRESHOLD ACTORS EVENT EVENT .. / POINT POINT ..`: what the run of the events answers, whether the core is
-// finished then, and the nodes.
+// `core run CUBE THRESHOLD ACTORS EVENT EVENT .. / POINT POINT ..`: the result of the run of the events, whether the
+// core is finished then, and the nodes.
 fn run(alloc: Global, words: &mut Words<'_>, out: &mut String) -> Result<(), Miss> {
     let (first, points) = parted(words.rest(), " /")?;
     let mut words = Words::of(first);
@@ -120,15 +120,15 @@ fn run_all(core: &mut Core, events: &[Event], out: &mut String) -> Result<(), Mi
     write_tiles(&core.tiles()?, out)
 }
 
-// How many actors, points and events a list by lot has.
+// How many actors, points and events a random list has.
 const ACTORS: u32 = 3;
 
 const POINTS: u32 = 200;
 
 const EVENTS: u32 = 300;
 
-// `core lots FIRST LAST`: how many of the lists of events by lot, with the numbers from FIRST up to LAST, end in the sampling
-// of their points, once what was left has been drawn and has landed.
+// `core lots FIRST LAST`: how many of the random lists of events, from number FIRST to the one before LAST, end in the
+// sampling of their points. What is left after a list is drawn first, and lands.
 fn lots(alloc: Global, words: &mut Words<'_>, out: &mut String) -> Result<(), Miss> {
     let first = words.number::<u64>()?;
     let last = words.number::<u64>()?;
@@ -142,7 +142,7 @@ fn lots(alloc: Global, words: &mut Words<'_>, out: &mut String) -> Result<(), Mi
     Ok(())
 }
 
-// Numbers as if drawn by lot, the same in each run.
+// Numbers that look random, the same in each run.
 #[derive(Drop)]
 struct Lot {
     state: u64,

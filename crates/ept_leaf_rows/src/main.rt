@@ -1,4 +1,4 @@
-//! Rows of calls of the lower crates: each line of the input makes one, and the program prints what it answers.
+//! Rows of calls of the lower crates: each line of the input makes one, and the program prints its result.
 #![tactic(auto)]
 
 mod filters;
@@ -35,7 +35,7 @@ fn main(rt: HostRuntime) -> io::Result<()> {
     Ok(())
 }
 
-// Writes the answer of a line, which is the line itself where it is a comment or empty.
+// Writes the result of a line, which is the line itself if it is a comment or empty.
 fn answer(alloc: Global, line: &str, out: &mut String) -> Result<(), Miss> {
     if line.is_empty() || line.starts_with('#') {
         out.push_str(line)?;

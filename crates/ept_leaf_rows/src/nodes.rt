@@ -21,7 +21,7 @@ use ept_space::{Key, Rules};
 use std::alloc::Global;
 use std::fmt::Write;
 
-/// Answers a call.
+/// Carries out a call, and writes its result.
 pub(crate) fn answer(
     alloc: Global,
     call: &str,
@@ -37,7 +37,7 @@ pub(crate) fn answer(
     }
 }
 
-// Where a node stands.
+// Where a node is.
 #[derive(Drop)]
 struct Site {
     rules: Rules,
@@ -45,7 +45,7 @@ struct Site {
     ghost low: { key.depth ≤ rules.cube.depth },
 }
 
-// The cube, the threshold and the key that are the next three words.
+// The site whose cube, threshold and key are the next three words.
 fn site_of(words: &mut Words<'_>) -> Result<Site, Miss> {
     let rules = rules_of(words)?;
     let key = key_of(words.word()?)?;
@@ -59,8 +59,8 @@ fn file_of(alloc: Global) -> MemSpill {
     MemSpill::new(alloc, Vec::new(alloc))
 }
 
-// `node batch CUBE THRESHOLD KEY POINT POINT ..`: the points of a new node once these have arrived together, what it shows
-// then, and the points that left.
+// `node batch CUBE THRESHOLD KEY POINT POINT ..`: the points of a new node once these have arrived together, what it
+// shows then, and the points that left.
 fn batch(alloc: Global, words: &mut Words<'_>, out: &mut String) -> Result<(), Miss> {
     let site = site_of(words)?;
     let points = points_of(alloc, words.rest())?;
@@ -97,8 +97,9 @@ fn are_inside(points: &[Point], grid: &Grid) -> bool
     points.iter().all(|point| grid.is_inside(point))
 }
 
-// `node life CUBE THRESHOLD KEY MASK POINT POINT .. / POINT POINT ..`: what a node shows as it is blank, begun, blank again,
-// begun again with a child in octant 7, and filled with the points before the stroke and then with those behind it.
+// `node life CUBE THRESHOLD KEY MASK POINT POINT .. / POINT POINT ..`: what a node shows when it is blank, begun, blank
+// again, and begun again with a child in octant 7. Then it is filled with the points before the stroke, and with those
+// after it.
 fn life(alloc: Global, words: &mut Words<'_>, out: &mut String) -> Result<(), Miss> {
     let site = site_of(words)?;
     let mask = words.number()?;
@@ -158,7 +159,7 @@ fn write_filled(filled: Result<(), GridError>, out: &mut String) -> Result<(), M
     }
 }
 
-// What a node shows: its state, and where it is not blank its key, count, open octants and children, and its fault.
+// What a node shows: its state and its fault. If it is not blank, also its key, count, open octants and children.
 fn write_node<F: SpillFile>(node: &Node<F>, out: &mut String) -> Result<(), Miss> {
     let state = node.state();
     part(out)?;
@@ -182,15 +183,15 @@ fn write_node<F: SpillFile>(node: &Node<F>, out: &mut String) -> Result<(), Miss
     Ok(())
 }
 
-// `node kept FAILS CUBE THRESHOLD KEY STEP STEP .. / POINT POINT ..`: what each step does to a node with these points and a
-// child in octant 3. Of its file the calls with the numbers FAILS fail. A step is `spill`, `reload` or `tell`.
+// `node kept FAILS CUBE THRESHOLD KEY STEP STEP .. / POINT POINT ..`: what each step does to a node with these points
+// and a child in octant 3. The calls of its file with the numbers FAILS fail. A step is `spill`, `reload` or `tell`.
 fn kept(alloc: Global, words: &mut Words<'_>, out: &mut String) -> Result<(), Miss> {
     let fails = calls_of(alloc, words.word()?)?;
     pass(alloc, MemSpill::new(alloc, fails), words, out)
 }
 
-// `node lied LENGTH BYTE CUBE THRESHOLD KEY STEP STEP .. / POINT POINT ..`: the same, where the file says that it has LENGTH
-// bytes and gives back BYTE in place of each.
+// `node lied LENGTH BYTE CUBE THRESHOLD KEY STEP STEP .. / POINT POINT ..`: the same over a file that reports LENGTH
+// bytes and returns BYTE in place of each.
 fn lied(alloc: Global, words: &mut Words<'_>, out: &mut String) -> Result<(), Miss> {
     let length = words.number()?;
     let byte = words.number()?;

@@ -1,4 +1,4 @@
-//! What words stand for: bytes, texts, lists, places, cubes, boxes, keys and points.
+//! What words mean: bytes, texts, lists, places, cubes, boxes, keys and points.
 
 ghost use Rattle.std.specs.Prelude.{◌≡◌, ◌≤◌, ◌∷◌, []};
 
@@ -18,7 +18,8 @@ pub(crate) fn bytes_of(alloc: Global, word: &str) -> Result<Vec<u8>, Miss> {
     }
 }
 
-/// The bytes of a text between two quotation marks, in which `\x` and two digits stand for a byte, and all else for itself.
+/// The bytes of a text between two quotation marks. In it `\x` and two digits are a byte, and each other character is
+/// itself.
 pub(crate) fn quoted(alloc: Global, text: &str) -> Result<Vec<u8>, Miss> {
     let inner = text
         .strip_prefix('"')
@@ -49,7 +50,7 @@ pub(crate) fn list_of(alloc: Global, word: &str) -> Result<Vec<u32>, Miss> {
     Ok(numbers)
 }
 
-/// The numbers of a word as those of calls.
+/// The numbers of a word as numbers of calls.
 pub(crate) fn calls_of(alloc: Global, word: &str) -> Result<Vec<u64>, Miss> {
     let mut calls = Vec::new(alloc);
     for call in list_of(alloc, word)?.iter() {
@@ -112,8 +113,8 @@ pub(crate) fn classes_of(alloc: Global, word: &str) -> Result<ClassSet, Miss> {
     Ok(set)
 }
 
-/// `ORIGIN:NUMBER@X,Y,Z`: the point of that id at that place; with `/CLASS/FLAGS` behind it, of that class and with those
-/// class flags.
+/// `ORIGIN:NUMBER@X,Y,Z`: the point of that id at that place. With `/CLASS/FLAGS` after it, the point has that class
+/// and those class flags.
 pub(crate) fn point_of(word: &str) -> Result<Point, Miss> {
     let (id, place) = parted(word, "@")?;
     let (origin, record) = parted(id, ":")?;
@@ -130,7 +131,7 @@ pub(crate) fn point_of(word: &str) -> Result<Point, Miss> {
     Ok(point_of_class(id, place_of(place)?, number(class)?, flags))
 }
 
-/// Points, as many as there are words.
+/// Points, one for each word.
 pub(crate) fn points_of(alloc: Global, words: &str) -> Result<Vec<Point>, Miss> {
     let mut points = Vec::new(alloc);
     for word in words.split_whitespace() {

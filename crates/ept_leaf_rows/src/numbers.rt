@@ -16,7 +16,7 @@ use std::fmt::Write;
 // The most decimals of a decimal text.
 const MOST_PLACES: u8 = 9;
 
-/// Answers a call.
+/// Carries out a call, and writes its result.
 pub(crate) fn answer(
     alloc: Global,
     call: &str,

@@ -20,7 +20,7 @@ use ept_space::{Key, child};
 use std::alloc::Global;
 use std::fmt::Write;
 
-/// Answers a call.
+/// Carries out a call, and writes its result.
 pub(crate) fn answer(
     alloc: Global,
     call: &str,
@@ -34,7 +34,8 @@ pub(crate) fn answer(
     }
 }
 
-// `octree new CUBE THRESHOLD MOST CACHE`: how many nodes a new octree has, how many of them may be in memory, and their keys.
+// `octree new CUBE THRESHOLD MOST CACHE`: how many nodes a new octree has, how many of them may be in memory, and their
+// keys.
 fn new(alloc: Global, words: &mut Words<'_>, out: &mut String) -> Result<(), Miss> {
     let rules = rules_of(words)?;
     let most = words.number::<u32>()?;
@@ -68,10 +69,10 @@ fn write_octree<F: SpillFile>(
     Ok(())
 }
 
-// `octree three CUBE THRESHOLD FAILS POINT POINT POINT`: what adding three nodes answers to an octree of which one may be in
-// memory, each of one of the points: the root, with its octants 0 and 1 open, and the nodes of these; then the point that
-// comes from the root, from the root once more, and from the others, and how many nodes are in memory at the end. Of each
-// file the calls with the numbers FAILS fail.
+// `octree three CUBE THRESHOLD FAILS POINT POINT POINT`: the results of adding three nodes to an octree of which one
+// may be in memory. They are the root, with its octants 0 and 1 open, and the nodes of these, each with one of the
+// points. Then the point that comes from the root, from the root once more, and from the others. At last how many nodes
+// are in memory at the end. The calls of each file with the numbers FAILS fail.
 fn three(alloc: Global, words: &mut Words<'_>, out: &mut String) -> Result<(), Miss> {
     let rules = rules_of(words)?;
     let fails = calls_of(alloc, words.word()?)?;
@@ -97,7 +98,7 @@ fn three(alloc: Global, words: &mut Words<'_>, out: &mut String) -> Result<(), M
     }
 }
 
-// What the adding answers, and then what comes from each node.
+// The result of the adding, and then what comes from each node.
 fn write_three<F: SpillFile>(
     alloc: Global,
     added: Result<(), AddError>,
@@ -137,7 +138,7 @@ fn is_there<F: SpillFile>(octree: &Octree<F>, alloc: Global, key: &Key) -> bool
     }
 }
 
-// Puts three nodes into an octree of no points: the root, with two open octants, and those of these.
+// Puts three nodes into an octree of no points: the root, with two open octants, and the nodes of these.
 fn put_three<F: SpillFile>(
     alloc: Global,
     octree: &mut Octree<F>,

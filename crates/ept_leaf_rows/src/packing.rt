@@ -10,7 +10,7 @@ use ept_point::{
 use std::alloc::Global;
 use std::fmt::Write;
 
-/// Answers a call.
+/// Carries out a call, and writes its result.
 pub(crate) fn answer(
     alloc: Global,
     call: &str,
@@ -101,7 +101,7 @@ fn write_point(alloc: Global, point: &Point, out: &mut String) -> Result<(), Mis
     Ok(())
 }
 
-// The fields in front of the scan angle, with a blank behind each.
+// The fields before the scan angle, with a blank after each.
 fn write_pulse(point: &Point, out: &mut String) -> Result<(), Miss> {
     for n in [point.x, point.y, point.z] {
         write!(out, "{n} ")?;
@@ -122,8 +122,8 @@ fn write_pulse(point: &Point, out: &mut String) -> Result<(), Miss> {
     Ok(())
 }
 
-// `point tile HEX HEX ..`: how many points the bytes are the tile of, and the bytes of the tile of these; or why they are none,
-// and how many points are read then. `point oldtile HEX HEX ..`: the same of a tile in the old layout.
+// `point tile HEX HEX ..`: how many points the bytes are the tile of, and the bytes of the tile of these. If they are
+// no tile, why, and how many points are read then. `point oldtile HEX HEX ..`: the same of a tile in the old layout.
 fn tile(alloc: Global, layout: Layout, words: &Words<'_>, out: &mut String) -> Result<(), Miss> {
     let mut bytes = Vec::new(alloc);
     for word in words.rest().split_whitespace() {
@@ -152,7 +152,7 @@ fn write_tile(alloc: Global, points: &[Point], out: &mut String) -> Result<(), M
     write_bytes(alloc, bytes.as_slice(), out)
 }
 
-// `point list N,N,..`: the items of a list of these numbers, and how many it gives back.
+// `point list N,N,..`: the items of a list of these numbers, and how many it returns.
 fn list(alloc: Global, words: &mut Words<'_>, out: &mut String) -> Result<(), Miss> {
     let list = List::of(list_of(alloc, words.word()?)?);
     for n in list.as_slice() {
@@ -162,7 +162,7 @@ fn list(alloc: Global, words: &mut Words<'_>, out: &mut String) -> Result<(), Mi
     Ok(())
 }
 
-// `point text "TEXT"`: the text, and how many bytes it gives back.
+// `point text "TEXT"`: the text, and how many bytes it returns.
 fn text(alloc: Global, words: &Words<'_>, out: &mut String) -> Result<(), Miss> {
     let bytes = quoted(alloc, words.rest())?;
     let spelled = str::from_utf8(bytes.as_slice()).map_err(|_| Miss::Form)?;

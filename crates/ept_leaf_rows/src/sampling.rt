@@ -7,7 +7,7 @@ use ept_sample::{are_in_cube, ids_ascend, sample};
 use ept_space::Rules;
 use std::alloc::Global;
 
-/// Answers a call.
+/// Carries out a call, and writes its result.
 pub(crate) fn answer(
     alloc: Global,
     call: &str,
@@ -33,7 +33,7 @@ fn nodes(alloc: Global, words: &mut Words<'_>, out: &mut String) -> Result<(), M
     write_nodes(alloc, &rules, words, out)
 }
 
-// `sample groups CUBE THRESHOLD LIST LAST POINT POINT ..`: the same where these classes come first, and withheld points
+// `sample groups CUBE THRESHOLD LIST LAST POINT POINT ..`: the same if these classes come first, and withheld points
 // last if LAST is 1.
 fn groups(alloc: Global, words: &mut Words<'_>, out: &mut String) -> Result<(), Miss> {
     let mut rules = rules_of(words)?;

@@ -13,7 +13,7 @@ use ept_space::Rules;
 use std::alloc::Global;
 use std::fmt::Write;
 
-/// Answers a call.
+/// Carries out a call, and writes its result.
 pub(crate) fn answer(
     alloc: Global,
     call: &str,
@@ -26,9 +26,9 @@ pub(crate) fn answer(
     }
 }
 
-// `forest slots CUBE SLOTS FAILS`: the states of the first and the last node of a new forest of so many slots, how many of
-// them are drawn before and after, and what drawing one answers, as often as there are slots; then once more of the forest of
-// its nodes. Of its room the calls with the numbers FAILS fail.
+// `forest slots CUBE SLOTS FAILS`: the states of the first and the last node of a new forest of SLOTS slots, and how
+// many are drawn. Then the result of drawing a slot, once for each slot, and how many are drawn then. At last the
+// result of one more draw from the forest of its nodes. The calls of its room with the numbers FAILS fail.
 fn slots(alloc: Global, words: &mut Words<'_>, out: &mut String) -> Result<(), Miss> {
     let cube = cube_of(words.word()?)?;
     let slots = words.number::<u32>()?;

@@ -13,7 +13,7 @@ use ept_space::{
 use std::alloc::Global;
 use std::fmt::Write;
 
-/// Answers a call.
+/// Carries out a call, and writes its result.
 pub(crate) fn answer(
     alloc: Global,
     call: &str,
@@ -35,8 +35,8 @@ pub(crate) fn answer(
     }
 }
 
-// `space cube MIN..MAX S DEPTH`: the corner on an axis, the exponent of the side and the greatest depth of the cube of the
-// bounds, a span of 2^S cells and at most that depth.
+// `space cube MIN..MAX S DEPTH`: the corner on an axis, the exponent of the side and the greatest depth of a cube. It
+// is that of the bounds, a span of 2^S cells and at most that depth.
 fn cube(words: &mut Words<'_>, out: &mut String) -> Result<(), Miss> {
     let bounds = bounds_of(words.word()?)?;
     let s = words.number()?;
@@ -108,7 +108,7 @@ fn child_at(words: &mut Words<'_>, out: &mut String) -> Result<(), Miss> {
     write_key(&child(&key, octant), out)
 }
 
-// `space before KEY KEY`: whether the first key stands before the second.
+// `space before KEY KEY`: whether the first key comes before the second.
 fn before(words: &mut Words<'_>, out: &mut String) -> Result<(), Miss> {
     let key = key_of(words.word()?)?;
     let other = key_of(words.word()?)?;

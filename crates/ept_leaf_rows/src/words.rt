@@ -6,10 +6,10 @@ use ept_point::Memory;
 use std::alloc::{AllocError, AllocFailed};
 use std::str::FromStr;
 
-/// Why a line has no answer.
+/// Why a line has no result.
 #[derive(Clone, Copy, Debug, PartialEq, Eq)]
 pub(crate) enum Miss {
-    /// It is not of the form of its call, or asks what the call requires not to be asked.
+    /// It is malformed, or breaks a condition of its call.
     Form,
     /// Memory ran out.
     Memory,
@@ -84,7 +84,7 @@ pub(crate) fn number<N: FromStr<Err: Drop>>(word: &str) -> Result<N, Miss> {
     word.parse().map_err(|_| Miss::Form)
 }
 
-/// What stands before a mark in a word, and what stands after it.
+/// What is before a mark in a word, and what is after it.
 pub(crate) fn parted<'a>(word: &'a str, mark: &str) -> Result<(&'a str, &'a str), Miss> {
     word.split_once(mark).ok_or(Miss::Form)
 }

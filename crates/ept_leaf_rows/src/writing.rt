@@ -7,7 +7,7 @@ use ept_space::{Key, key_text};
 use std::alloc::Global;
 use std::fmt::{Debug, Display, Write};
 
-/// What stands between two parts of an answer, where one stands there already.
+/// What separates two parts of a result, if there is a part already.
 pub(crate) fn part(out: &mut String) -> Result<(), Miss> {
     if !out.is_empty() {
         out.push_str(" | ")?;

@@ -1,4 +1,4 @@
--- What one call more does to what is read, to the images, and to those of earlier moments.
+-- What one more call does to what is read, to the images, and to those of earlier moments.
 use Rattle.std.proofs.Common.{◌≡◌, ◌≢◌, ◌⊎◌, inl, inr, ⊎_elim, ℕ, zero, suc, ◌+◌, ◌≤◌, ◌<◌, List, [], ◌∷◌, ◌++◌, Option, Vec, length, take, get_or, refl, sym, ◌∙◌, ap, subst, arith, length-append}
 use Rattle.std.specs.Prelude.{String, Contains, string_bytes}
 use Rattle.std.specs.declared.alloc.Global.{Global}
@@ -13,7 +13,7 @@ use Rattle.ept_mem.specs.declared.store.Call.{Call}
 use Rattle.ept_mem.specs.declared.store.Call.TheVariants.{Write, Sync}
 use Rattle.ept_mem.specs.Disk.{Disk, disk, settled, after, bytes_of, IsImage, WasImageSince, MaySpoil}
 
--- a name is among those touched, or among the one more
+-- a name that is not among those touched, and not the new one, is not among them together
 contains_more : (names : List (List ℕ)) (more name : List ℕ) → name ≢ more → ¬ Contains names name → ¬ Contains (more ∷ names) name
 contains_more names more name differ free (zero, lt, is) = differ (sym is)
 contains_more names more name differ free (suc k, lt, is) = free (k, omega arith, is)
@@ -21,7 +21,7 @@ contains_more names more name differ free (suc k, lt, is) = free (k, omega arith
 contains_first : (names : List (List ℕ)) (name : List ℕ) → Contains (name ∷ names) name
 contains_first names name = (0, omega arith, refl)
 
--- the images before a name was touched, and after
+-- the images before a name was touched, and after that
 pub touched_follows : (now : Disk) (text : String Global) (content : Option (Vec ℕ Global)) → Follows (SameBut (string_bytes text)) (IsImage now) (IsImage (after now (Write text content)))
 touched_follows now text content image is =
     let name : List ℕ = string_bytes text in (
@@ -39,7 +39,7 @@ touched_spoils now text content image found is other free =
     ∙ is other (λ had. free (suc had.0, omega (arith, had.1), had.2))
 
 module _ (first : Files) (calls later : List Call) where
-  -- the state after one call more
+  -- the state after one more call
   pub disk_more : (call : Call) → later ≡ calls ++ call ∷ [] → disk first later ≡ after (disk first calls) call
   disk_more call more = ap (λ (l : List Call). disk first l) more ∙ fold-append after (settled first) calls (call ∷ [])
 
@@ -85,7 +85,7 @@ module _ (first : Files) (calls later : List Call) where
   time_same same = subst (λ (l : List Call). Elapses (length calls) (length l) (WasImageSince first calls) (WasImageSince first l) (IsImage (disk first l))) (sym same)
       (record { later = omega arith; nothing_else = λ t image le since. inl since; keeps = λ t image le past. past })
 
-  -- nor what is read and the images
+  -- nor does it change what is read and the images
   pub same_files : later ≡ calls → SameFiles (disk first calls).reads (disk first later).reads
   same_files same name = ap (λ (l : List Call). (disk first l).reads name) same
 
@@ -104,7 +104,7 @@ module _ (first : Files) (calls later : List Call) where
       let settled_is : IsImage (settled (disk first calls).reads) image = subst (λ (d : Disk). IsImage d image) (disk_more Sync more) is in
       settled_is name (λ had. absurd (omega (arith, had.1))) ∙ reads_image first calls name free
 
--- the state after one call more of the front
+-- the state after one more call of the prefix
 pub disk_front : (first : Files) (calls : List Call) (i : ℕ) (call : Call) → i < length calls → call ≡ get_or calls i call → disk first (take (i + 1) calls) ≡ after (disk first (take i calls)) call
 disk_front first calls i call here is =
     disk_more first (take i calls) (take (i + 1) calls) call (take_more calls i call here ∙ ap (λ (x : Call). take i calls ++ x ∷ []) (sym is))

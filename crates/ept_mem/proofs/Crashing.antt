@@ -19,6 +19,6 @@ not_among (first ∷ names) name free =
     ap (λ (b : Bool). b || list_any (λ written. bytes_eq name written) names) (bytes_differ name first (λ same. free (0, omega arith, sym same)))
     ∙ not_among names name (λ had. free (suc had.0, omega (arith, had.1), had.2))
 
--- a name that was not touched is as it was stable
+-- a name that was not touched is as it was at the last sync
 pub crash_spares : (how : Crash) (disk : Disk) (name : List ℕ) → ¬ Contains disk.touched name → crashed how disk name ≡ disk.stable name
 crash_spares how disk name free = ap (λ (b : Bool). cond b (left_of how disk name) (disk.stable name)) (not_among disk.touched name free)

@@ -1,4 +1,4 @@
--- The piece that comes next stands in front of all that is left.
+-- The piece that comes next is the start of all that is left.
 use Rattle.std.proofs.Common.{◌≡◌, ℕ, ◌+◌, ◌-◌, ◌<◌, ◌≤◌, List, [], ◌∷◌, ◌++◌, Bool, Vec, length, take, drop, refl, sym, ◌∙◌, ap, subst, arith, ⊎_elim, length-append, length-drop, length-take}
 use Rattle.std.specs.Prelude.{min, if◌then◌else◌}
 use Rattle.std.specs.declared.alloc.Global.{Global}
@@ -7,7 +7,7 @@ use Rattle.std.proofs.lemmas.Bool.{cases_lt, lt-ltb, le-ltb}
 use Rattle.std.proofs.Math.Seq.{drop-append-add}
 use Rattle.ept_mem.specs.Cut.{bytes_of_all, rest_of_piece}
 
--- what is left is the rest of the piece and more, and the rest is empty only where nothing is left
+-- what is left is the rest of the piece and more, and the rest is empty only if nothing is left
 pub record Begins (left rest : List ℕ) : Type 0 where
   pub behind : List ℕ
   pub split : left ≡ rest ++ behind
@@ -36,7 +36,7 @@ piece_begins (piece ∷ pieces) place = ⊎_elim within (past (piece_begins piec
         (sym (le-ltb place (length piece.items) le))
         (subst (λ (l : List ℕ). Begins l (rest_of_piece pieces (place - length piece.items))) there later)
 
--- so a piece's front of n bytes is read, and the others are left
+-- so the first n bytes of a piece are read, and the others are left
 pub left_behind : (pieces : List (Vec ℕ Global)) (place n : ℕ) → n ≤ length (rest_of_piece pieces place)
     → drop place (bytes_of_all pieces) ≡ take n (rest_of_piece pieces place) ++ drop (place + n) (bytes_of_all pieces)
 left_behind pieces place n le =
@@ -46,7 +46,7 @@ left_behind pieces place n le =
     ap (λ (l : List ℕ). take n l) begins.split ∙ take-append-le n (rest_of_piece pieces place) begins.behind le in
     sym (take-append-drop n left) ∙ ap (λ (l : List ℕ). l ++ drop n left) front ∙ ap (λ (l : List ℕ). take n (rest_of_piece pieces place) ++ l) (drop-drop n place (bytes_of_all pieces))
 
--- a read that copies from the front of the piece into the buffer, and keeps what it gave
+-- a read that copies the start of the piece into the buffer, and keeps what it gave
 module _ (pieces : List (Vec ℕ Global)) (taken more into copied rest : List ℕ) (n : ℕ)
     (rest_is : rest ≡ rest_of_piece pieces (length taken)) (count : n ≡ min (length rest) (length into)) (copied_is : copied ≡ take n rest) (more_is : more ≡ taken ++ take n rest) where
   buffer_front : take n (copied ++ drop n into) ≡ take n rest
@@ -65,7 +65,7 @@ module _ (pieces : List (Vec ℕ Global)) (taken more into copied rest : List �
       ∙ ap (λ (l : List ℕ). l ++ drop (length taken + n) (bytes_of_all pieces)) (sym buffer_front)
       ∙ ap (λ (k : ℕ). take n (copied ++ drop n into) ++ drop k (bytes_of_all pieces)) (sym place_after)
 
-  -- no byte was read into a buffer with room, so there is none
+  -- if no byte was read into a buffer with room, there is none left
   pub read_end : n ≡ 0 → 0 < length (copied ++ drop n into) → drop (length more) (bytes_of_all pieces) ≡ []
   read_end none room =
       let short : length rest ≡ 0 = omega (arith, none, room, count, length-append copied (drop n into), length-drop n into, ap length copied_is, length-take n rest) in

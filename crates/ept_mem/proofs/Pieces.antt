@@ -10,7 +10,7 @@ read_is bytes into copied place n count is =
       (λ none room. drop_all (place + n) bytes (omega (arith, length-append copied (drop n into), length-drop n into, length-drop place bytes))),
     )
 
--- the same as the code spells it
+-- the same as it is spelled in the code
 pub piece_is : (whole bytes into copied : List ℕ) (place n : ℕ) → whole ≡ bytes → n ≡ min (length (take (length whole - place) (drop place whole))) (length into) → copied ≡ take n (take (length whole - place) (drop place whole))
     → (drop place bytes ≡ take n (copied ++ drop n into) ++ drop (place + n) bytes) × (n ≡ 0 → 0 < length (copied ++ drop n into) → drop (place + n) bytes ≡ [])
 piece_is whole bytes into copied place n same count is =

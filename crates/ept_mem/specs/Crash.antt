@@ -15,7 +15,7 @@ pub image_counts : (first : Files) (calls : List Call) (t : ℕ) (image : Files)
 image_counts first calls t image le now =
     (length calls, le, omega arith, subst (λ (l : List Call). IsImage (disk first l) image) (sym (take_all (length calls) calls (omega arith))) now)
 
--- since this moment there is no other
+-- since this moment there is no other image
 pub image_only : (first : Files) (calls : List Call) (image : Files) → WasImageSince first calls (length calls) image → IsImage (disk first calls) image
 image_only first calls image since =
     subst (λ (l : List Call). IsImage (disk first l) image) (take_all since.0 calls since.1) since.3

@@ -8,7 +8,7 @@ use Rattle.ept_mem.specs.declared.crash.Crash.{Crash}
 use Rattle.ept_mem.specs.declared.crash.Crash.TheVariants.{Old, New, Absent, Junk}
 use Rattle.ept_base.specs.Files.{Files, changed, SameFiles}
 
--- the files that are read, those that a sync made stable, and the names written or removed since
+-- the files that are read, those that a sync flushed, and the names written or removed since
 pub record Disk : Type 0 where
   pub reads : Files
   pub stable : Files
@@ -32,11 +32,11 @@ left_of New disk name = disk.reads name
 left_of Absent disk name = None
 left_of Junk disk name = Some (255 ∷ [])
 
--- what it leaves: of each other name what was stable
+-- what it leaves of all names: each other name is as it was flushed
 abbrev pub crashed : Crash → Disk → Files
 crashed how disk = λ name. if is_touched disk name then left_of how disk name else disk.stable name
 
--- the name was made to read as this content, or to be absent
+-- the name was made to read as this content, or to be missing
 abbrev pub written : Disk → List ℕ → Option (List ℕ) → Disk
 written disk name content = record {
   reads = changed disk.reads name content;
@@ -44,7 +44,7 @@ written disk name content = record {
   touched = name ∷ disk.touched;
 }
 
--- one call more
+-- after one more call
 abbrev pub after : Disk → Call → Disk
 after disk (Write name content) = written disk (string_bytes name) (bytes_of content)
 after disk Sync = settled disk.reads
@@ -54,11 +54,12 @@ after disk (Crashed name content how) = settled (crashed how (written disk (stri
 abbrev pub disk : Files → List Call → Disk
 disk first calls = fold after (settled first) calls
 
--- A crash may leave these files: a name that was not touched since the last sync reads as it was made stable; a touched one may be absent or hold any bytes.
+-- A crash may leave these files. A name that was not touched since the last sync reads as it was flushed. A touched one
+-- may be missing or hold any bytes.
 abbrev pub IsImage : Disk → Files → Type 0
 IsImage disk files = (name : List ℕ) → ¬ Contains disk.touched name → files name ≡ disk.stable name
 
--- a crash after some number of calls, t at least, may have left these files
+-- a crash after some number of calls, at least t, may have left these files
 abbrev pub WasImageSince : Files → List Call → ℕ → Files → Type 0
 WasImageSince first calls t files = (k : ℕ) × (t ≤ k) × (k ≤ length calls) × IsImage (disk first (take k calls)) files
 
@@ -66,7 +67,7 @@ WasImageSince first calls t files = (k : ℕ) × (t ≤ k) × (k ≤ length call
 abbrev pub MaySpoil : List ℕ → (Files → Type 0) → (Files → Type 0) → Type 0
 MaySpoil name old new = (image : Files) (content : Option (List ℕ)) → old image → new (changed image name content)
 
--- a crash of this kind made the new one of the old one, with every name as at a sync
+-- a crash of this kind made the new one from the old one, with every name as after a sync
 pub record IsCrashOf (how : Crash) (old new : Disk) : Type 0 where
   pub reads : SameFiles (crashed how old) new.reads
   pub stable : SameFiles (crashed how old) new.stable

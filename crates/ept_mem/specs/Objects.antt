@@ -19,7 +19,7 @@ use Rattle.ept_base.specs.Links.{Wire}
 abbrev pub source_bytes : MemSource → List ℕ
 source_bytes source = source.bytes.items
 
--- those from its place on
+-- its bytes from its place to the end
 abbrev pub source_left : MemSource → List ℕ
 source_left source = drop source.place source.bytes.items
 
@@ -44,7 +44,7 @@ link_wire link = record {
   reads = link.reads.items;
 }
 
--- what a read of a link gives at most: the rest of the piece that it stands in
+-- what a read of a link gives at most: the rest of the piece that it is in
 abbrev pub link_piece : MemLink → List ℕ
 link_piece link = rest_of_piece link.pieces.items (length link.taken.items)
 
@@ -128,7 +128,7 @@ room_file_fails room = room.file_fails.items
 abbrev pub store_fails : MemStore → List ℕ
 store_fails store = store.plan.plan.fails.items
 
--- how many calls more a store's fuse passes, where it has one
+-- how many more calls a store's fuse passes, if it has one
 abbrev pub store_fuse : MemStore → Option ℕ
 store_fuse store = store.plan.fuse
 
@@ -154,7 +154,7 @@ room_faults room = room.plan.faults
 abbrev pub store_faults : MemStore → ℕ
 store_faults store = store.plan.plan.faults
 
--- the counts of the bytes that a source gave, and that the sources of a shelf gave that it took back
+-- how many bytes a source gave, and how many the sources gave that a shelf took back
 abbrev pub source_given : MemSource → ℕ
 source_given source = source.given
 

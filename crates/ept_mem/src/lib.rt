@@ -1,8 +1,8 @@
 //! Sources, sinks, links, spill files and stores in memory, for tests and for runs that touch no disk.
 //!
-//! Each object tells what it holds, and each is given the numbers of the calls that are to fail. Its
-//! calls are numbered from 0, `retire` apart. A store keeps a record of its calls, from which the
-//! images that a crash may leave follow.
+//! The contents of each object are visible, and each is given the numbers of the calls that are to fail. Its calls are
+//! numbered from 0, except `retire`. A store keeps a record of its calls, from which the images that a crash may leave
+//! follow.
 #![tactic(auto)]
 
 mod crash;

@@ -5,8 +5,8 @@ use crate::plan::Plan;
 use ept_base::{Failed, Link};
 use std::alloc::Global;
 
-/// A link in memory. The bytes that come are cut in pieces, and a read gives no more than the rest of
-/// one; an empty piece is passed over. What is written is gathered.
+/// A link in memory. The bytes that come are cut in pieces, and a read gives at most the rest of one piece; an empty
+/// piece is skipped. What is written is gathered.
 #[derive(Debug, Drop)]
 pub struct MemLink {
     pieces: Vec<Vec<u8>>,
@@ -16,7 +16,7 @@ pub struct MemLink {
     plan: Plan,
 }
 
-/// Behind so many bytes, what is left of the piece in which the next byte stands.
+/// What is left, after `place` bytes, of the piece that has the next byte.
 fn rest_of(pieces: &[Vec<u8>], place: usize) -> &[u8]
     ensures { result.now ≡ rest_of_piece pieces.now place }
 {
@@ -33,8 +33,7 @@ fn rest_of(pieces: &[Vec<u8>], place: usize) -> &[u8]
 impl MemLink {
     ghost use Rattle.ept_mem.specs.Objects.{link_wire, link_faults, link_fails, link_calls};
 
-    /// A link over which these pieces come, one after another, and whose calls of these numbers fail. It
-    /// takes no memory.
+    /// A link over which these pieces come, one after another. Its calls of these numbers fail. It takes no memory.
     pub fn new(alloc: Global, pieces: Vec<Vec<u8>>, fails: Vec<u64>) -> Self
         ensures left { (link_wire result).left ≡ bytes_of_all pieces.items }
         ensures untaken { (link_wire result).taken ≡ [] }
@@ -86,7 +85,7 @@ impl Link for MemLink {
     {
         let is_to_fail = self.plan.next();
         let before = (self.taken.len(), self.written.len());
-        // A link has no answer for want of memory.
+        // A link has no error for running out of memory.
         if self.reads.push(before).is_err() || is_to_fail {
             return Err(self.plan.fault());
         }

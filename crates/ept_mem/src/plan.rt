@@ -25,7 +25,7 @@ impl Plan {
         }
     }
 
-    /// Counts a call, and tells whether it is to fail.
+    /// Counts a call, and returns whether it is to fail.
     pub(crate) fn next(&mut self) -> bool
         ensures told { IsTrue result ↔ Contains self.old.fails.items self.old.calls }
         ensures counted { self.new.calls ≡ min (self.old.calls + 1) (2 ^ 64 - 1) }
@@ -49,7 +49,7 @@ impl Plan {
     }
 }
 
-/// A plan and a fuse: where there is one, it passes that many calls more, and none from then on.
+/// A plan and a fuse: if there is a fuse, it passes that many more calls, and none after them.
 #[derive(Debug, Drop)]
 pub(crate) struct FusedPlan {
     pub(crate) plan: Plan,
@@ -69,7 +69,7 @@ impl FusedPlan {
         }
     }
 
-    /// Counts a call, and tells whether it is to fail.
+    /// Counts a call, and returns whether it is to fail.
     pub(crate) fn next(&mut self) -> bool
         ensures told { IsTrue result ↔ (Contains self.old.plan.fails.items self.old.plan.calls ⊎ (self.old.fuse ≡ Some 0)) }
         ensures counted { self.new.plan.calls ≡ min (self.old.plan.calls + 1) (2 ^ 64 - 1) }

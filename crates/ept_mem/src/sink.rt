@@ -70,7 +70,7 @@ impl Sink for MemSink {
         let count = from.len().min(self.most);
         match self.bytes.extend_from_slice(&from[..count]) {
             Ok(()) => Ok(count),
-            // A sink has no answer for want of memory.
+            // A sink has no error for running out of memory.
             Err(_) => Err(self.plan.fault()),
         }
     }

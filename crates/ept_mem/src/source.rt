@@ -113,8 +113,8 @@ impl MemShelf {
     ghost use Rattle.ept_mem.specs.Named.{content_of};
     ghost use Rattle.ept_mem.specs.Objects.{IsFresh, source_bytes, shelf_files, shelf_faults, shelf_given, shelf_asked, shelf_fails, shelf_calls, shelf_source_fails};
 
-    /// A shelf of these files, of which the first of a path counts. Its own calls of the numbers
-    /// `fails` fail, and so do those of the numbers `source_fails` of each source that it opens.
+    /// A shelf of these files. If a path occurs more than once, its first file counts. The shelf's own calls of the
+    /// numbers `fails` fail. So do those of the numbers `source_fails` of each source that it opens.
     pub fn new(
         alloc: Global,
         files: Vec<(String, Vec<u8>)>,
@@ -146,7 +146,7 @@ impl MemShelf {
         &self.asked
     }
 
-    /// A source of the bytes of this path, where there is such a path.
+    /// A source of the bytes of this path, if there is such a path.
     fn source_of(&self, path: &str) -> Result<Option<MemSource>, AllocError>
         ensures found { IfOk result (λ found. option_map source_bytes found ≡ shelf_files self.now path.now) }
         ensures fresh { IfOk result (λ found. IfSome found (λ source. IsFresh source (shelf_source_fails self.now))) }

@@ -99,8 +99,8 @@ impl MemRoom {
     ghost use Rattle.std.specs.Prelude.{◌≡◌};
     ghost use Rattle.ept_mem.specs.Objects.{room_faults, room_keeps, room_fails, room_calls, room_file_fails};
 
-    /// A room whose own calls of the numbers `fails` fail, and in each file that it makes those of the
-    /// numbers `file_fails`.
+    /// A room whose own calls of the numbers `fails` fail. In each file that it makes, those of the numbers
+    /// `file_fails` do.
     pub fn new(alloc: Global, fails: Vec<u64>, file_fails: Vec<u64>) -> Self
         ensures sound { room_faults result ≡ 0 }
         ensures fails { room_fails result ≡ fails.items }

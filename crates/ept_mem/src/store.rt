@@ -15,12 +15,12 @@ use std::alloc::{AllocError, Global};
 /// A call of a store that a crash may spoil, or that ends what a crash may spoil.
 #[derive(Debug, Drop)]
 pub(crate) enum Call {
-    /// The name was made to read as this content, or to be absent.
+    /// The name was made to read as this content, or to be missing.
     Write {
         name: String,
         content: Option<Vec<u8>>,
     },
-    /// What was read became stable.
+    /// What was read was flushed.
     Sync,
     /// The name was written so, and then there was a crash.
     Crashed {
@@ -30,10 +30,10 @@ pub(crate) enum Call {
     },
 }
 
-/// A store in memory. A call of `put` or `remove` that fails leaves its name absent.
+/// A store in memory. A call of `put` or `remove` that fails leaves its name missing.
 ///
-/// It keeps what it read at first and its calls, and what is read, what is stable and what a crash may
-/// spoil follow from these.
+/// It keeps what it read at first and its calls. What is read, what is flushed and what a crash may spoil follow from
+/// these.
 #[derive(Debug, Drop)]
 pub struct MemStore {
     alloc: Global,
@@ -43,8 +43,7 @@ pub struct MemStore {
     plan: FusedPlan,
 }
 
-/// What is known of a name: what it reads as, what is stable, and whether it was written since the last
-/// sync.
+/// What is known of a name: what it reads as, what is flushed, and whether it was written since the last sync.
 #[derive(Clone, Copy)]
 struct Known<'a> {
     reads: Option<&'a [u8]>,
@@ -72,7 +71,7 @@ fn after_write<'a>(
     }
 }
 
-/// What is known after everything read so.
+/// What is known after everything that is read was flushed.
 fn when_settled<'a>(reads: Option<&'a [u8]>) -> Known<'a>
     ensures reads { option_copied result.reads ≡ option_copied reads.entry }
     ensures stable { option_copied result.stable ≡ option_copied reads.entry }
@@ -99,7 +98,7 @@ fn left_of<'a>(known: Known<'a>, how: Crash) -> Option<&'a [u8]>
     }
 }
 
-/// What is known after one call more.
+/// What is known after one more call.
 fn after_call<'a>(known: Known<'a>, call: &'a Call, name: &str) -> Known<'a>
     ensures { (disk : Disk) → Knows disk name.now (option_copied known.entry.reads) (option_copied known.entry.stable) known.entry.is_touched
         → Knows (after disk call.now) name.now (option_copied result.reads) (option_copied result.stable) result.is_touched }
@@ -129,7 +128,7 @@ fn latest<'a>(first: &'a [(String, Vec<u8>)], calls: &'a [Call], name: &str) -> 
     known.reads
 }
 
-/// These calls, and then a crash. No call more is noted, so that it takes no memory.
+/// These calls, and then a crash. No further call is noted, so it takes no memory.
 fn crash_behind(mut calls: Vec<Call>, how: Crash) -> Vec<Call>
     ensures { (first : Files) → IsCrashOf how (disk first calls.items) (disk first result.items) }
 {
@@ -144,8 +143,8 @@ fn crash_behind(mut calls: Vec<Call>, how: Crash) -> Vec<Call>
 }
 
 impl MemStore {
-    /// A settled store of these files, of which the first of a name counts, and whose calls of these
-    /// numbers fail.
+    /// A settled store of these files, whose calls of these numbers fail. If a name occurs more than once, its first
+    /// file counts.
     pub fn new(alloc: Global, files: Vec<(String, Vec<u8>)>, fails: Vec<u64>) -> Self
         ensures files { store_files result ≡ content_of files.items }
         ensures settled { IsSettled (Some (store_files result)) (store_images result) }
@@ -164,8 +163,7 @@ impl MemStore {
         }
     }
 
-    /// The same store, which passes this many calls from now on, and fails each one behind them. It
-    /// takes no memory.
+    /// The same store, which passes this many calls from now on, and fails each call after them. It takes no memory.
     pub fn with_fuse(self, calls: u64) -> MemStore
         ensures fuse { store_fuse result ≡ Some calls }
         ensures files { store_files result ≡ store_files self }
@@ -203,7 +201,7 @@ impl MemStore {
         }
     }
 
-    /// The bytes that the name reads as, where it is there.
+    /// The bytes that the name reads as, if it is there.
     pub fn file(&self, name: &str) -> Option<&[u8]>
         ensures { option_copied result ≡ store_files self.now name.now }
     {
@@ -227,7 +225,7 @@ impl MemStore {
         Ok(())
     }
 
-    /// Notes that what is read is stable.
+    /// Notes that what is read is flushed.
     fn settle(&mut self) -> Result<(), AllocError>
         ensures ok { OnOk result (IsSettled (Some (store_files self.new)) (store_images self.new)) }
         ensures unchanged { OnErr result (SameImages (store_images self.old) (store_images self.new)) }

@@ -14,13 +14,13 @@ use Rattle.ept_mem_infallible.specs.declared.store.SureStore.{SureStore}
 abbrev pub no_files : Files
 no_files = λ name. None
 
--- each name has a file: the one that these files have of it, or else an empty one
+-- each name has a file: the one that these files have for it, or otherwise an empty one
 abbrev pub or_empty : Files → Files
 or_empty files = λ name. Some (unwrap_or (files name) [])
 
 -- ---- sources
 
--- the bytes of a source, those from its place on, and how many it has given
+-- the bytes of a source, those from its place to its end, and how many it has given
 abbrev pub source_bytes_of : SureSource → List ℕ
 source_bytes_of source = source_bytes source.source
 

@@ -1,7 +1,7 @@
 //! Sources, spill files and a store in memory that never fail.
 //!
-//! Each object tells what it holds, and its count of faults is always 0. So over these a call can be refused
-//! for want of memory, and for no fault of a device.
+//! The contents of each object are visible, and its count of faults is always 0. So a call over them can be refused
+//! only because memory ran out.
 #![tactic(auto)]
 
 mod room;

@@ -33,8 +33,7 @@ impl Source for SureSource {
     }
 }
 
-/// A shelf in memory that never fails. Each path can be opened: one of which it was given no file is that of
-/// an empty file.
+/// A shelf in memory that never fails. Each path can be opened: a path without a file of its own is an empty file.
 #[derive(Debug, Drop)]
 pub struct SureShelf {
     alloc: Global,
@@ -47,7 +46,7 @@ impl SureShelf {
     ghost use Rattle.ept_mem.specs.Named.{content_of};
     ghost use Rattle.ept_mem_infallible.specs.Objects.{or_empty, shelf_files_of, shelf_given_of, shelf_asked_of};
 
-    /// A shelf of these files, of which the first of a path counts. It takes no memory.
+    /// A shelf of these files. If a path occurs more than once, its first file counts. It takes no memory.
     pub fn new(alloc: Global, files: Vec<(String, Vec<u8>)>) -> Self
         ensures files { shelf_files_of result ≡ or_empty (content_of files.items) }
         ensures unread { shelf_given_of result ≡ 0 }
@@ -77,7 +76,7 @@ impl Shelf for SureShelf {
     fn open(&mut self, path: &str) -> Result<SureSource, GetError> {
         match self.shelf.open(path) {
             Ok(source) => Ok(SureSource { source }),
-            // The shelf within has no such file, and noted that it was asked for it.
+            // The inner shelf has no such file, and noted that it was asked for it.
             Err(GetError::Failed) => Ok(empty_source(self.alloc)),
             Err(GetError::Memory) => Err(GetError::Memory),
         }

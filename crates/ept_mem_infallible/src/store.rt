@@ -30,7 +30,7 @@ impl SureStore {
         }
     }
 
-    /// The bytes that the name reads as, where it is there.
+    /// The bytes that the name reads as, if it is there.
     pub fn file(&self, name: &str) -> Option<&[u8]>
         ensures { option_copied result ≡ store_files_of self.now name.now }
     {

@@ -1,4 +1,4 @@
-//! What is said of a configuration that differs from what its folder keeps: both values, as they can be shown.
+//! The sentence of a configuration that differs from what its folder keeps: both values, as they can be shown.
 
 use crate::keys::key_of;
 use ept_meta::Field;
@@ -13,7 +13,7 @@ const SHOWN: usize = 60;
 /// How many characters of a long value are shown before the first that differs.
 const BEFORE: usize = 20;
 
-/// The keys of an input, in the order in which they are looked at.
+/// The keys of an input, in the order in which they are compared.
 const INPUT_KEYS: [&str; 4] = ["path", "scale", "shift", "expect"];
 
 // What to do if a value differs, and if an input does.
@@ -21,8 +21,8 @@ const VALUE_ADVICE: &str = "build into a new folder, or give the old value back"
 
 const INPUT_ADVICE: &str = "build into a new folder, or put the old inputs first, in order";
 
-/// The first field in which a configuration differs from what its folder keeps, with both values as JSON texts;
-/// of the inputs those of the first that differs, the given one empty if the list ends before it.
+/// The first field in which a configuration differs from what its folder keeps, with both values as JSON texts. If the
+/// inputs differ, they are those of the first input that does. The given one is empty if the list ends before it.
 #[derive(Clone, Copy)]
 pub struct Differing<'a> {
     pub field: Field,
@@ -34,7 +34,7 @@ pub struct Differing<'a> {
 ///
 /// # Errors
 ///
-/// Out of memory.
+/// [`AllocError`] if memory runs out.
 pub fn write_difference(
     alloc: Global,
     text: &mut String,
@@ -50,7 +50,7 @@ pub fn write_difference(
     }
 }
 
-// Of a list of inputs that ends before this one.
+// Writes that a list of inputs ends before this one.
 fn write_end(
     alloc: Global,
     text: &mut String,
@@ -74,7 +74,7 @@ fn write_missing(
     )
 }
 
-// Of an input: its first key that differs.
+// Writes the first key in which an input differs.
 fn write_input(
     alloc: Global,
     text: &mut String,
@@ -98,7 +98,7 @@ fn differs(alloc: Global, kept: &[u8], given: &[u8], key: &str) -> Result<bool, 
     Ok(one != other)
 }
 
-// Of the path of an input, or of another key of the input of a path.
+// Writes that the path of an input differs, or another key of the input of a path.
 fn write_member(
     alloc: Global,
     text: &mut String,
@@ -138,7 +138,7 @@ fn write_of(alloc: Global, text: &mut String, kept: &[u8]) -> Result<(), AllocEr
     write!(text, " of {path}")
 }
 
-// Of the values of a key.
+// Writes that the values of a key differ.
 fn write_field(
     alloc: Global,
     text: &mut String,
@@ -168,7 +168,7 @@ fn write_given(text: &mut String, given: Excerpt<'_>, config: &str) -> Result<()
     write!(text, ", and {config} has {given}: {VALUE_ADVICE}")
 }
 
-// The JSON text of a key of an input, as it can be shown, or what stands for it if there is none.
+// The JSON text of a key of an input, as it can be shown, or what is shown in its place if there is none.
 fn member(alloc: Global, input: &[u8], key: &str) -> Result<String, AllocError> {
     let found = Value::from_slice(alloc, input);
     match found.as_ref().ok().and_then(|value| value.get(key)) {
@@ -180,7 +180,7 @@ fn member(alloc: Global, input: &[u8], key: &str) -> Result<String, AllocError> 
     }
 }
 
-// A text of which a part is shown: from this character on, with dots for what is left out.
+// A text of which a part is shown: the characters from `from` on, with dots for what is left out.
 #[derive(Clone, Copy)]
 struct Excerpt<'a> {
     text: &'a str,
@@ -188,7 +188,7 @@ struct Excerpt<'a> {
 }
 
 impl<'a> Excerpt<'a> {
-    // From its first character on.
+    // The whole text.
     fn whole(text: &'a str) -> Self {
         Excerpt { text, from: 0 }
     }
@@ -214,7 +214,7 @@ impl fmt::Display for Excerpt<'_> {
     }
 }
 
-// Both values as they are shown: if one is long, from shortly before the first character that differs.
+// Both values as they are shown. If one is long, they are shown from shortly before the first character that differs.
 fn excerpts<'a>(kept: &'a str, given: &'a str) -> (Excerpt<'a>, Excerpt<'a>) {
     let from = if is_long(kept) || is_long(given) {
         alike(kept, given).saturating_sub(BEFORE)
@@ -229,7 +229,7 @@ fn is_long(text: &str) -> bool {
     text.chars().nth(SHOWN).is_some()
 }
 
-// How many characters at the front of both texts are the same.
+// How many characters at the start of both texts are the same.
 fn alike(one: &str, other: &str) -> usize {
     one.chars()
         .zip(other.chars())
@@ -237,7 +237,7 @@ fn alike(one: &str, other: &str) -> usize {
         .count()
 }
 
-// Bytes as text: without control characters, and with the numbers of bytes that are no text.
+// Bytes as text: without control characters, and with the numbers of bytes that are not text.
 fn safe(alloc: Global, bytes: &[u8]) -> Result<String, AllocError> {
     let mut text = String::new(alloc);
     for chunk in bytes.utf8_chunks() {

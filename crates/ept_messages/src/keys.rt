@@ -1,9 +1,9 @@
-//! The keys of a configuration, and what their values are to be.
+//! The keys of a configuration, and what their values must be.
 
 use ept_config_text::ConfigKey;
 use ept_meta::Field;
 
-/// What the value of this key is to be: its type and its range.
+/// What the value of this key must be: its type and its range.
 pub(crate) fn range_of(key: ConfigKey) -> &'static str {
     match key {
         ConfigKey::Top => "an object",

@@ -1,4 +1,4 @@
-//! What is said on standard error of a run that fails: why, in words, each file by its path.
+//! What is written to standard error if a run fails: why, in words, each file by its path.
 #![tactic(auto)]
 
 mod differences;

@@ -1,4 +1,4 @@
-//! The message of a run that fails: the sentence of its failure, with the names that it takes.
+//! The message of a run that fails: the sentence of its failure, with the names that it needs.
 
 use crate::differences::{Differing, write_difference};
 use crate::keys::KEYS;
@@ -20,7 +20,7 @@ use std::fmt::Write;
 /// What a program found of the files that a run failed at.
 #[derive(Clone, Copy, Debug, Default)]
 pub struct Found<'a> {
-    /// The file that could not be opened or read; none if there is no such file, or no memory to keep its path.
+    /// The file that could not be opened or read. `None` if there is no such file, or no memory to keep its path.
     pub unread: Option<&'a str>,
     /// Whether that file exists.
     pub has_unread: bool,
@@ -30,12 +30,12 @@ pub struct Found<'a> {
 
 /// Why the run of these words failed, as one sentence, or as the usage if they are no command.
 ///
-/// The configuration is read from the shelf again if an input, a key or a value of it is to be named; so is the
-/// checkpoint in the store, the folder of a build, if the configuration differs from what that keeps.
+/// If an input, a key or a value of it is to be named, the configuration is read from the shelf again. If the
+/// configuration differs from what the folder of a build keeps, the checkpoint is read from the store again too.
 ///
 /// # Errors
 ///
-/// Out of memory.
+/// [`AllocError`] if memory runs out.
 pub fn message<H: Shelf, T: Store>(
     alloc: Global,
     words: &[String],
@@ -97,13 +97,14 @@ fn names_of<'a>(words: &'a [String], found: &Found<'a>) -> Names<'a> {
     }
 }
 
-// Of a line that could not be written.
+// Writes the sentence of a line that could not be written.
 fn write_line(text: &mut String, line: &[u8]) -> Result<(), AllocError> {
     let line = str::from_utf8(line).unwrap_or("").trim_end();
     write!(text, "standard output could not be written: {line}")
 }
 
-// Of a build, a part of one, or a merge. The configuration is read again for what is not in the words.
+// Writes the sentence of a build, a part of one, or a merge. The configuration is read again for what is not in the
+// words.
 fn write_build<H: Shelf, T: Store>(
     alloc: Global,
     text: &mut String,
@@ -127,7 +128,7 @@ fn write_build<H: Shelf, T: Store>(
     }
 }
 
-// With both values of the field that differs.
+// Writes the sentence with both values of the field that differs.
 fn write_differs<H: Shelf, T: Store>(
     alloc: Global,
     text: &mut String,
@@ -149,8 +150,8 @@ fn write_differs<H: Shelf, T: Store>(
     }
 }
 
-// The first field in which the configuration of this path differs from what the store keeps, if one does, and if both
-// can be read again.
+// The first field in which the configuration of this path differs from what the store keeps. `None` if no field
+// differs, or if one of them can't be read again.
 fn difference_of<H: Shelf, T: Store>(
     alloc: Global,
     path: &str,
@@ -162,8 +163,8 @@ fn difference_of<H: Shelf, T: Store>(
     difference_from(alloc, &config, &saved)
 }
 
-// The first field in which a configuration differs from what the current checkpoint keeps, if one does. No input is
-// opened if a field differs, so a shelf without files serves.
+// The first field in which a configuration differs from what the current checkpoint keeps, if one does. If a field
+// differs, no input is opened, so a shelf without files is enough.
 fn difference_from(alloc: Global, config: &Config, saved: &Saved) -> Option<Difference> {
     let mut empty = MemShelf::new(alloc, Vec::new(alloc), Vec::new(alloc), Vec::new(alloc));
     match make_plan(alloc, config, &mut empty, saved) {
@@ -172,7 +173,8 @@ fn difference_from(alloc: Global, config: &Config, saved: &Saved) -> Option<Diff
     }
 }
 
-// With the path of the input of this number, or with its number if the configuration can't be read again.
+// Writes the sentence with the path of the input of this number. If the configuration can't be read again, it names no
+// path.
 fn write_of_input<H: Shelf>(
     alloc: Global,
     text: &mut String,
@@ -208,7 +210,7 @@ fn path_of(config: &Config, source: u32) -> &str {
     }
 }
 
-// With the first key that is none of a configuration's.
+// Writes the sentence with the first key that no configuration has.
 fn write_unknown<H: Shelf>(
     alloc: Global,
     text: &mut String,

@@ -16,7 +16,7 @@ use std::alloc::AllocError;
 use std::fmt;
 use std::fmt::Write;
 
-/// What is said of words that are no command: the commands, a line each.
+/// What is written if the words are no command: the commands, a line each.
 const USAGE: &str = "usage:
   build CONFIG OUT
   part CONFIG OUT OCTANTS
@@ -27,13 +27,13 @@ const USAGE: &str = "usage:
   info LAS
   trial N WORKERS CACHE";
 
-/// What is said if there is no memory, also for a sentence.
+/// What is written if there is no memory, not even for a sentence.
 pub const OUT_OF_MEMORY: &str = "out of memory";
 
 // What to do if a spill file is damaged.
 const SPILL_ADVICE: &str = "run the same build again, or with a greater `cacheSize`";
 
-/// The files and the key that a sentence may name. What is not known, or not named, is empty.
+/// The files and the key that a sentence may name. A name that is not known or not needed is empty.
 #[derive(Clone, Copy, Debug, Default)]
 pub(crate) struct Names<'a> {
     /// The configuration of a build, a part or a merge.
@@ -46,7 +46,7 @@ pub(crate) struct Names<'a> {
     pub(crate) input: &'a str,
     /// Whether the configuration gives bounds.
     pub(crate) has_bounds: bool,
-    /// The key of the configuration that it may not have.
+    /// The key in the configuration that it may not have.
     pub(crate) unknown: &'a str,
     /// The file that could not be opened or read.
     pub(crate) unread: &'a str,
@@ -148,7 +148,7 @@ pub(crate) fn write_merge(
     }
 }
 
-// Of a part that is damaged: the tile of a key, or its body, or all bodies together.
+// Writes the sentence of a part that is damaged: the tile of a key, or its body, or all bodies together.
 fn write_damaged(
     text: &mut String,
     octants: u8,
@@ -192,7 +192,7 @@ impl fmt::Display for Octants {
     }
 }
 
-// Of a configuration that is refused.
+// Writes the sentence of a configuration that is refused.
 fn write_configuration(
     text: &mut String,
     error: ConfigError,
@@ -219,7 +219,7 @@ fn write_configuration(
     }
 }
 
-// Of a key whose value is refused for this fault.
+// Writes the sentence of a key whose value is refused for this fault.
 fn write_key(
     text: &mut String,
     key: ConfigKey,
@@ -231,7 +231,7 @@ fn write_key(
     write!(text, "`{name}` in {config} {fault}: expected {range}")
 }
 
-// Of a LAS file that is refused.
+// Writes the sentence of a LAS file that is refused.
 fn write_las(text: &mut String, fault: LasError, file: &str) -> Result<(), AllocError> {
     let (before, after) = around_file(fault);
     write!(text, "{before}{file}{after}")?;
@@ -241,8 +241,8 @@ fn write_las(text: &mut String, fault: LasError, file: &str) -> Result<(), Alloc
     Ok(())
 }
 
-// What is said of a fault of a LAS file, before its path and after it; of a file that ends early a record's number
-// follows.
+// What is written of a fault of a LAS file, before its path and after it. If the file ends early, the number of a
+// record follows.
 fn around_file(fault: LasError) -> (&'static str, &'static str) {
     match fault {
         LasError::Short => ("", " is shorter than a LAS header"),
@@ -258,7 +258,7 @@ fn around_file(fault: LasError) -> (&'static str, &'static str) {
     }
 }
 
-// Of a record that is not within the bounds, or not in stored units.
+// Writes the sentence of a record that is not within the bounds, or not in stored units.
 fn write_bounds(
     text: &mut String,
     number: PointNumber,
@@ -272,7 +272,7 @@ fn write_bounds(
     write!(text, "record {number} of {} {fault}", names.input)
 }
 
-// Of an input that has changed. Its header is meant by record 0 too.
+// Writes the sentence of an input that has changed. Record 0 also means its header.
 fn write_changed(text: &mut String, number: PointNumber, input: &str) -> Result<(), AllocError> {
     write!(text, "{input} has changed since it was scanned")?;
     if number > 0 {
@@ -281,7 +281,7 @@ fn write_changed(text: &mut String, number: PointNumber, input: &str) -> Result<
     Ok(())
 }
 
-// Of a field that differs, if its values are not known.
+// Writes the sentence of a field that differs, if its values are not known.
 fn write_field(text: &mut String, field: Field, names: &Names<'_>) -> Result<(), AllocError> {
     let Names { config, out, .. } = *names;
     match field {
@@ -299,7 +299,7 @@ fn write_field(text: &mut String, field: Field, names: &Names<'_>) -> Result<(),
     }
 }
 
-// Of the body of a checkpoint.
+// Writes the sentence of the body of a checkpoint.
 fn write_checkpoint(text: &mut String, letter: Letter, out: &str) -> Result<(), AllocError> {
     let name = match letter {
         Letter::A => "body-a",
@@ -308,19 +308,19 @@ fn write_checkpoint(text: &mut String, letter: Letter, out: &str) -> Result<(), 
     write!(text, "`ept-work/{name}` in {out} is missing or damaged")
 }
 
-// Of a saved tile.
+// Writes the sentence of a saved tile.
 fn write_tile(text: &mut String, key: &Key, out: &str) -> Result<(), AllocError> {
     text.push_str("the saved tile of ")?;
     write_text(text, key)?;
     write!(text, " in {out} is missing or damaged")
 }
 
-// The text of a key.
+// Writes the text of a key.
 fn write_text(text: &mut String, key: &Key) -> Result<(), AllocError> {
     write!(text, "{}-{}-{}-{}", key.depth, key.x, key.y, key.z)
 }
 
-// Of a file that could not be opened or read.
+// Writes the sentence of a file that could not be opened or read.
 fn write_unread(text: &mut String, names: &Names<'_>) -> Result<(), AllocError> {
     let file = names.unread;
     if file.is_empty() {
@@ -405,7 +405,7 @@ pub(crate) fn write_query(
     }
 }
 
-// The name of a file of a dataset.
+// Writes the name of a file of a dataset.
 fn write_file(text: &mut String, file: QueryFile) -> Result<(), AllocError> {
     match file {
         QueryFile::BuildJson => text.push_str("`ept-build.json`"),

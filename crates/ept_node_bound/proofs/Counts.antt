@@ -16,19 +16,19 @@ count_by-yes test x xs e = count_by-cons test x xs ∙ ap (λ (b : Bool). cond b
 count_by-no : {X : Type 0} (test : X → Bool) (x : X) (xs : List X) → test x ≡ false → count_by test (x ∷ xs) ≡ 0 + count_by test xs
 count_by-no test x xs e = count_by-cons test x xs ∙ ap (λ (b : Bool). cond b 1 0 + count_by test xs) e
 
--- where all pass, all are counted
+-- if all pass, all are counted
 pub count_by-all : {X : Type 0} (test : X → Bool) (xs : List X) → ((x : X) → IsMember x xs → test x ≡ true) → count_by test xs ≡ length xs
 count_by-all test [] all = refl
 count_by-all test (x ∷ xs) all =
     omega (arith, count_by-yes test x xs (all x (inl refl)), count_by-all test xs (λ y m. all y (inr m)))
 
--- where none passes, none is counted
+-- if none passes, none is counted
 pub count_by-none : {X : Type 0} (test : X → Bool) (xs : List X) → ((x : X) → IsMember x xs → test x ≡ false) → count_by test xs ≡ 0
 count_by-none test [] none = refl
 count_by-none test (x ∷ xs) none =
     omega (arith, count_by-no test x xs (none x (inl refl)), count_by-none test xs (λ y m. none y (inr m)))
 
--- of a list without repetitions, a test that one item passes at most counts one at most
+-- in a list without repetitions, a test that at most one item passes counts at most one
 pub count_by-once : {X : Type 0} (before : X → X → Bool) → IsOrder before → (test : X → Bool) (xs : List X) → IsRising before xs → ((x y : X) → IsMember x xs → IsMember y xs → test x ≡ true → test y ≡ true → x ≡ y) → count_by test xs ≤ 1
 count_by-once before o test [] up one = omega arith
 count_by-once {X} before o test (x ∷ xs) up one =
@@ -43,7 +43,7 @@ count_by-once {X} before o test (x ∷ xs) up one =
 
 -- ---- over two lists
 
--- how many pairs meet, of an item of the first list and one of the second
+-- how many pairs of an item of the first list and one of the second meet
 abbrev pub meetings : {X Y : Type 0} → (X → Y → Bool) → List X → List Y → ℕ
 meetings meets [] ys = 0
 meetings meets (x ∷ xs) ys = count_by (meets x) ys + meetings meets xs ys
@@ -58,12 +58,12 @@ meetings-cons meets [] y ys = refl
 meetings-cons meets (x ∷ xs) y ys =
     omega (arith, count_by-cons (meets x) y ys, count_by-cons (λ w. meets w y) x xs, meetings-cons meets xs y ys)
 
--- each of the second meets one at most
+-- each item of the second meets at most one
 pub meetings-le : {X Y : Type 0} (meets : X → Y → Bool) (xs : List X) (ys : List Y) → ((y : Y) → count_by (λ x. meets x y) xs ≤ 1) → meetings meets xs ys ≤ length ys
 meetings-le meets xs [] once = omega (arith, meetings-nil meets xs)
 meetings-le meets xs (y ∷ ys) once = omega (arith, meetings-cons meets xs y ys, once y, meetings-le meets xs ys once)
 
--- each of the first meets so many at least
+-- each item of the first meets at least n
 pub le-meetings : {X Y : Type 0} (meets : X → Y → Bool) (n : ℕ) (xs : List X) (ys : List Y) → ((x : X) → IsMember x xs → n ≤ count_by (meets x) ys) → length xs * n ≤ meetings meets xs ys
 le-meetings meets n [] ys many = omega arith
 le-meetings meets n (x ∷ xs) ys many =

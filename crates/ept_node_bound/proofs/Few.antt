@@ -31,7 +31,7 @@ use Rattle.ept_node_bound.proofs.Given.{lies_at, node-top, node-lies}
 of_depth : ℕ → List VoxelKey → List VoxelKey
 of_depth depth keys = filter (λ (key : VoxelKey). key.depth == depth) keys
 
--- a point lies in the box of one of them at most
+-- a point lies in the box of at most one of them
 lies-once : (rules : Rules) (points : List Point) (depth : ℕ) (p : Point) → count_by (λ key. lies_at rules depth key p) (of_depth depth (node_keys rules points)) ≤ 1
 unfolding of_depth
 lies-once rules points depth p =

@@ -26,12 +26,12 @@ pub node-top : (rules : Rules) (points : List Point) (key : VoxelKey) → is_nod
 node-top rules points key is top =
     elim (node-cases rules points key is) [ inl same ↦ same | inr some ↦ given-top rules points key some.0 top some.1 ]
 
--- where a point leaves for an octant, that one overflows
+-- if a point leaves for an octant, that octant overflows
 open-overflows : (rules : Rules) (depth : ℕ) (xs : List Point) (o : ℕ) → is_open rules depth none_open xs o ≡ true → overflows rules depth xs o ≡ true
 unfolding is_open
 open-overflows rules depth xs o e = e
 
--- a key below the root is given none, or more than the threshold
+-- a key below the root is given no points, or more than the threshold
 given-more : (rules : Rules) (points : List Point) (key : VoxelKey) (p : Point) → 0 < key.depth → IsMember p (given rules points key) → rules.threshold < length (given rules points key)
 given-more rules points key p deep m =
     let above : List Point = given rules points (parent key) in
@@ -73,7 +73,7 @@ given-once rules points j k p can m n level =
     sym (given-at rules points j p can m)
     ∙ (ap (λ (d : ℕ). key_at rules.cube d (place p)) level ∙ given-at rules points k p can n)
 
--- a test counts no more of the points given to a key than of all
+-- a test counts no more of the points given to a key than of all points
 count_by-given_at : (rules : Rules) (points : List Point) (test : Point → Bool) (d : ℕ) (key : VoxelKey) → count_by test (given_at rules points d key) ≤ count_by test points
 unfolding given_at sent
 count_by-given_at rules points test zero key = top (same_key key root)

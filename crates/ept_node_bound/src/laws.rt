@@ -2,8 +2,8 @@
 
 ghost use Rattle.ept_node_bound.specs.Few.{NodesAreGivenMany, NoneIsGivenTwice, DepthsHaveFewNodes, NodesAreFew, TilesAreFew};
 
-/// The nodes of a sampling are few: below the root, a depth has at most as many as there are whole groups among
-/// the points, each of one point more than the threshold, and no node lies below the greatest depth.
+/// The nodes of a sampling are few. Below the root, a depth has at most one node for each whole group among the points.
+/// A group has one point more than the threshold. No node lies below the greatest depth.
 pub fn few_nodes_law()
     ensures given { NodesAreGivenMany }
     ensures once { NoneIsGivenTwice }

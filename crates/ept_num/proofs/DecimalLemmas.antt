@@ -1,4 +1,4 @@
--- What `decimal` writes of a number with a leading 1, and how long it is.
+-- What `decimal` writes for a number with a leading 1, and how long it is.
 use Rattle.std.proofs.Common.{◌≡◌, ℕ, zero, suc, ◌+◌, ◌-◌, ◌*◌, ◌/◌, ◌%◌, ◌^◌, ◌<◌, ◌≤◌, List, [], ◌∷◌, ◌++◌, length, drop, set, refl, ap, sym, ◌∙◌, arith, length-append, subst, ℤ, pos, negsuc, unsigned_abs, int_lt, true, false, drop-drop}
 use Rattle.std.proofs.lemmas.Bool.{false≢true}
 use borrow.Author.Tests.{ltb-true}
@@ -16,7 +16,7 @@ power_some k h = one-le-pow k 10 (omega arith)
 power_most : (k : ℕ) → k ≤ 9 → 10 ^ k ≤ 10 ^ 9
 power_most k h = pow-le-pow_right {n = 10} (omega arith) h
 
--- a 1 in front of k digits makes `decimal` write all of them
+-- a 1 before k digits makes `decimal` write all of them
 pub decimal_after_one : (k r : ℕ) → k ≤ 9 → r < 10 ^ k → decimal (10 ^ k + r) ≡ 49 ∷ last_digits k r
 decimal_after_one zero r h below =
     let none : r ≡ 0 = omega arith in
@@ -34,7 +34,7 @@ pub length-last_digits : (k r : ℕ) → length (last_digits k r) ≡ k
 length-last_digits zero r = refl
 length-last_digits (suc k) r = omega (arith, length-append (last_digits k (r / 10)) ((48 + r % 10) ∷ []), length-last_digits k (r / 10))
 
--- the digits of the fraction and the 1 in front of them
+-- the digits of the fraction and the 1 before them
 pub length-decimal_after_one : (k r : ℕ) → k ≤ 9 → r < 10 ^ k → length (decimal (10 ^ k + r)) ≡ k + 1
 length-decimal_after_one k r h below = rw (decimal_after_one k r h below) (omega (arith, length-last_digits k r))
 
@@ -48,7 +48,7 @@ length-whole m k h fits =
     let short : length (decimal (m / 10 ^ k)) ≤ 20 - k = length-decimal-le (20 - k) (m / 10 ^ k) (omega arith) below (omega arith) in
     omega arith
 
--- the same, where the power is a number known to be it
+-- the same, if the power is a number known to be it
 pub length-decimal_at : (k r unit : ℕ) → k ≤ 9 → r < 10 ^ k → unit ≡ 10 ^ k → length (decimal (unit + r)) ≡ k + 1
 length-decimal_at k r unit h below e = rw e (length-decimal_after_one k r h below)
 
@@ -76,7 +76,7 @@ written_fraction (suc k) r unit some most below e was before start full long at 
 no_below_zero : (n : ℕ) → int_lt (pos n) (pos 0) ≡ true → ⊥
 no_below_zero n h = let below : n < 0 = ltb-true n 0 h in omega arith
 
--- a negative number: its sign in front of its magnitude
+-- a negative number: its sign before its magnitude
 pub written_negative : (n z : ℤ) (k m : ℕ) → z ≡ n → m ≡ unsigned_abs z → int_lt z (pos 0) ≡ true → (text : List ℕ) (start : ℕ) → 1 ≤ start → start ≤ length text → drop start text ≡ scaled_text m k → drop (start - 1) (set text (start - 1) 45) ≡ decimal_text_of n k
 unfolding decimal_text_of
 written_negative (pos n) z k m is e negative text start some inside written = absurd (no_below_zero n (rw is at negative))

@@ -1,4 +1,4 @@
--- The one spelling of a signed number, and what `parse` reads of it.
+-- The one spelling of a signed number, and what `parse` reads from it.
 use Rattle.std.proofs.Common.{◌≡◌, ◌∙◌, ℕ, List, Result, Ok, sym, ap, subst, ℤ, FitsSigned, w64}
 use Rattle.std.proofs.lemmas.Fmt.{IsAscii-signed, parse-signed_decimal}
 use Rattle.std.proofs.lemmas.Int.{to_z-of_z}
@@ -12,7 +12,7 @@ use mir.Val.{to_z, of_z}
 pub utf8_of_spelling : (n : ℤ) (bs : List ℕ) → FitsSigned w64 n → bs ≡ signed_decimal n → IsUtf8 bs
 utf8_of_spelling n bs fits e = subst IsUtf8 (sym e) (IsUtf8-from_ascii _ (IsAscii-signed n fits.sfits))
 
--- `parse` gives the number
+-- `parse` returns the number
 pub read_of_spelling : {E : Type 0} (n : ℤ) (bs : List ℕ) (r : Result ℤ E) → FitsSigned w64 n → bs ≡ signed_decimal n → ParsesSigned w64 10 bs r → r ≡ Ok n
 read_of_spelling n bs r fits e h = parse-signed_decimal w64 n bs r fits fits.sfits e h
 

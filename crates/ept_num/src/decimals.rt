@@ -3,13 +3,13 @@ ghost use Rattle.ept_num.specs.Decimals.{decimal_text_of, scaled_text, fraction_
 
 use itoa::write_digits;
 
-/// The most bytes that a decimal text is given room for: a sign, twenty digits, a point, and some.
+/// The most bytes that a decimal text is given room for: a sign, twenty digits, a point, and two more.
 const ROOM: usize = 24;
 
-/// Writes `n` divided by 10^`places` into the front of `into`, and returns how many bytes it took.
+/// Writes `n` divided by 10^`places` to the start of `into`, and returns how many bytes it took.
 ///
-/// The text has exactly `places` decimals and at least one digit before the point, as `-0.05` for -5
-/// at two places. It has no point at no places. `places` is at most 9.
+/// The text has exactly `places` decimals and at least one digit before the point, as `-0.05` for -5 at two places. It
+/// has no point if `places` is 0. `places` is at most 9.
 pub fn decimal_text(n: i64, places: u8, into: &mut [u8; 24]) -> usize
     requires { places ≤ 9 }
     ensures text { take result into.new ≡ decimal_text_of n places }
@@ -38,7 +38,7 @@ fn write_signed(n: i64, places: u8, text: &mut [u8; 24]) -> usize
     start
 }
 
-// The same of the whole part, the point and the fraction.
+// The same for the whole part, the point and the fraction.
 fn write_scaled(magnitude: u64, places: u8, text: &mut [u8; 24]) -> usize
     requires { places ≤ 9 }
     ensures written { drop result text.new ≡ scaled_text magnitude places }
@@ -53,7 +53,7 @@ fn write_scaled(magnitude: u64, places: u8, text: &mut [u8; 24]) -> usize
     write_digits(magnitude / unit, text, point)
 }
 
-// The same of the point and the fraction, which is below 10^`places`.
+// The same for the point and the fraction, which is below 10^`places`.
 fn write_fraction(fraction: u64, places: u8, text: &mut [u8; 24]) -> usize
     requires some { 1 ≤ places }
     requires most { places ≤ 9 }
@@ -61,8 +61,8 @@ fn write_fraction(fraction: u64, places: u8, text: &mut [u8; 24]) -> usize
     ensures written { drop result text.new ≡ fraction_text places fraction }
     ensures start { result + places + 1 ≡ 24 }
 {
-    // One more digit, a 1, goes in front of the others, so that their zeros are written too. The
-    // point takes its place.
+    // One more digit, a 1, is written before the others, so that their zeros are written too. The point takes its
+    // place.
     let start = write_digits(power_of_ten(places) + fraction, text, ROOM);
     text[start] = b'.';
     start

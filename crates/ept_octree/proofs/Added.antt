@@ -158,7 +158,7 @@ module _ {F : Type 0} (held : F → Option (List ℕ)) (rules : Rules) (used : �
           added-nodes =
               ap (λ (w : List (Option grid.Node)). branches w after) now_there ∙ branches-more rules used (in_slots held ns) sites index after (filled key rules mask points) room no-slot sound is finds ascend
 
-    -- the site that was put is taken out again
+    -- the site that was put is removed again
     pub as-before : (k : ℕ) (after again : List Site) → after ≡ insert_entry key_cmp sites key k → again ≡ remove_entry (is_at (key_cmp key)) after → again ≡ sites
     as-before k after again is out =
         out ∙ (ap (λ (w : List Site). remove_entry (is_at (key_cmp key)) w) is ∙ put-removed sites key k no-slot)
@@ -230,7 +230,7 @@ module _ {F : Type 0} (held : F → Option (List ℕ)) (octree : Octree F) (key 
       put_next : after ≡ insert_entry key_cmp its_sites key (suc its_used)
       put_next = put ∙ ap (λ (k : ℕ). insert_entry key_cmp its_sites key k) next_slot
 
-      -- a node is there
+      -- the slot has a node
       module _ (mask : ℕ) (points : List Point) (there : in_slot held m ≡ Some (filled key octree.rules mask points)) (tile : IsTile key octree.rules mask points) (low : key.depth ≤ octree.rules.cube.depth) (finds : (q : VoxelKey) → slot_of after q ≡ cond (is_at (key_cmp key) q) (Some (drawn + 1)) (slot_of its_sites q)) (ordered : IsStrictlySortedBy key_cmp (map (λ (s : Site). s.0) after)) where
         found : (q : VoxelKey) → slot_of after q ≡ cond (is_at (key_cmp key) q) (Some (suc its_used)) (slot_of its_sites q)
         found = subst (λ (k : ℕ). (q : VoxelKey) → slot_of after q ≡ cond (is_at (key_cmp key) q) (Some k) (slot_of its_sites q)) next_slot finds
@@ -246,7 +246,7 @@ module _ {F : Type 0} (held : F → Option (List ℕ)) (octree : Octree F) (key 
         new-nodes =
             added-nodes held octree.rules its_used its_nodes its_sites known key free other (drawn + 1 - 1) at_used n new-at m mask points after there tile low put_next found ascend
 
-      -- none is, and the key has no slot again
+      -- the slot has no node, and the key has no slot again
       module _ (none : in_slot held m ≡ None) (again : List Site) (out : again ≡ remove_entry (is_at (key_cmp key)) after) where
         back : again ≡ its_sites
         back = as-before held octree.rules its_used its_nodes its_sites known key free other (drawn + 1) after again put out

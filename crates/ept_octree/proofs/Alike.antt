@@ -1,5 +1,5 @@
--- What files tell is no more than which points a node has: its key, its rules, its open octants and its count stay, and its points
--- lie in its box.
+-- What files hold affects only which points a node has. Its key, its rules, its open octants and its number of points
+-- do not depend on it, and its points lie in its box.
 use Rattle.std.proofs.Common.{◌≡◌, ◌∙◌, ℕ, zero, suc, ◌+◌, ◌<◌, ◌≤◌, ◌⊎◌, inl, inr, List, [], ◌∷◌, map, length, get_or, take, set, refl, sym, ap, subst, arith, Option, Some, None, sum_by, unwrap_or}
 use Rattle.std.specs.Prelude.{is_some, ⊤}
 use Rattle.std.proofs.lemmas.List.{length-append, length-set, get_or-set_same, get_or-set_other}
@@ -29,7 +29,7 @@ use Rattle.ept_octree.proofs.Placing.{some-node, its-slot, put-in, length-in, lo
 
 -- ---- one node
 
--- the same node but for which points it has: as many, and in its box too
+-- the same node except for which points it has: the same number of points, in its box too
 pub record IsLike (g h : grid.Node) : Type 0 where
   pub alike : IsAlike g h
   pub inside : AllInBox g.rules.cube g.key g.points → AllInBox h.rules.cube h.key h.points
@@ -79,7 +79,7 @@ spilled_inside t (Unkept kept) is = absurd (cc)
 spilled_inside t (Lost filed why) is = absurd (cc)
 
 module _ {F : Type 0} where
-  -- whatever the files tell
+  -- whatever the files hold
   pub node-like : (a b : F → Option (List ℕ)) (n : node.Node F) → IsLike (node_of a n) (node_of b n)
   node-like a b n = body-like (a n.file) (b n.file) n.body
 
@@ -90,13 +90,13 @@ module _ {F : Type 0} where
     inside = λ all. spilled_inside (held m.file) m.body is;
   }
 
-  -- a node that shows what it showed
+  -- a node that shows what it showed before
   pub still-like : (held : F → Option (List ℕ)) (n m : node.Node F) → node_of held m ≡ node_of held n → IsLike (node_of held n) (node_of held m)
   still-like held n m same = subst (λ (h : grid.Node). IsLike (node_of held n) h) (sym same) (like-self (node_of held n))
 
 -- ---- what lies in slots
 
--- nothing in both slots, or such a node
+-- nothing in both slots, or two such nodes
 abbrev pub AreLike : Option grid.Node → Option grid.Node → Type 0
 AreLike None None = ⊤
 AreLike None (Some h) = ⊥
@@ -119,7 +119,7 @@ some_like states.Resident g h never like = like
 some_like states.Spilled g h never like = like
 some_like states.Broken g h never like = like
 
--- of two nodes of keys
+-- two nodes of keys
 pub both-named : (s t : NodeState) (g h : grid.Node) → (s ≡ states.Blank → ⊥) → (t ≡ states.Blank → ⊥) → IsLike g h → AreLike (named s g) (named t h)
 both-named states.Blank t g h no_s no_t like = absurd (no_s refl)
 both-named states.Resident t g h no_s no_t like = some_like t g h no_t like
@@ -220,7 +220,7 @@ pub alike-nodes : (bs : List Branch) → AreAlike bs bs
 alike-nodes [] = tt
 alike-nodes (b ∷ bs) = ((refl, alike-self b.1), alike-nodes bs)
 
--- ---- whatever the files tell
+-- ---- whatever the files hold
 
 module _ {F : Type 0} (a b : F → Option (List ℕ)) where
   each_like : (ns : List (node.Node F)) (k : ℕ) → AreLike (get_or (map (in_slot a) ns) k None) (get_or (map (in_slot b) ns) k None)

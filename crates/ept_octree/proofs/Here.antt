@@ -13,7 +13,7 @@ use Rattle.ept_forest.proofs.Residents.{weight, residents-cons, none-here}
 use Rattle.ept_table.specs.At.{At}
 use Rattle.ept_table.proofs.Lists.{at-get, at-below, at-zero, at-next, at-head, nothing-at}
 
--- what holds where a file tells holds of one that does
+-- what holds if the contents of a file are visible holds, since they are
 pub telling : {X P : Type 0} (told : Option X) → (x : X) × (told ≡ Some x) → Tells (λ _. P) told → P
 telling None does holds = absurd (let is = does.1 in cc)
 telling (Some y) does holds = holds
@@ -29,7 +29,7 @@ module _ {F : Type 0} where
     swapped =
         subst (λ (w : node.Node F). forest.residents_of (set ns k m) + weight w ≡ forest.residents_of ns + weight m) (at-get n at) (sum_by-set weight ns k m n (at-below at))
 
-    -- as many
+    -- the same number
     pub residents-same : is_here m ≡ is_here n → forest.residents_of (set ns k m) ≡ forest.residents_of ns
     residents-same same =
         let e : weight m ≡ weight n = ap (λ (b : Bool). cond b 1 0) same in omega (arith, e, swapped)
@@ -41,7 +41,7 @@ module _ {F : Type 0} where
         let b : weight m ≡ 1 = ap (λ (b : Bool). cond b 1 0) here in
         omega (arith, a, b, swapped)
 
-    -- one less
+    -- one fewer
     pub residents-less : is_here n ≡ true → is_here m ≡ false → forest.residents_of (set ns k m) + 1 ≡ forest.residents_of ns
     residents-less here away =
         let a : weight n ≡ 1 = ap (λ (b : Bool). cond b 1 0) here in
@@ -60,7 +60,7 @@ module _ {F : Type 0} where
   all_blank (n ∷ ns) each =
       All-cons forest.IsBlank n ns (each 0 n (at-zero n ns)) (all_blank ns (λ k m at. each (suc k) m (at-next n ns k m at)))
 
-  -- where the first alone is the node of a key, and some node is in memory, it is that
+  -- if only the first is the node of a key, and some node is in memory, the first is in memory
   pub first-here : (ns : List (node.Node F)) (n : node.Node F) → At ns 0 n → ((k : ℕ) (m : node.Node F) → At ns (suc k) m → state_of m ≡ states.Blank) → 0 < forest.residents_of ns → is_here n ≡ true
   first-here [] n at blank some = absurd (nothing-at at)
   first-here (x ∷ xs) n at blank some =
@@ -76,7 +76,7 @@ module _ {F : Type 0} where
 -- ---- nodes and their files
 
 module _ {F : Type 0} (held : F → Option (List ℕ)) (faults keeps : F → ℕ) where
-  -- each node but those in memory was kept by its file
+  -- each node except those in memory was kept by its file
   pub each-kept : (ns : List (node.Node F)) (used : ℕ) → used ≤ length ns → ((k : ℕ) (n : node.Node F) → At ns k n → k < used → state_of n ≡ states.Blank → ⊥) → All (λ n. fault_of n ≡ None) ns → All (AgreesWithFile held faults keeps) ns → used ≤ forest.residents_of ns + forest.kept_by keeps ns
   each-kept ns zero low named sound agrees = omega arith
   each-kept [] (suc used) low named sound agrees = absurd (omega (arith, low))

@@ -94,7 +94,7 @@ module _ {F : Type 0} (held : F → Option (List ℕ)) (ns : List (node.Node F))
   same-slot =
       ap (λ (s : NodeState). named s (node_of held m)) state ∙ ap (λ (g : grid.Node). named (state_of n) g) same_node
 
-  -- what is known of the others, and of this one
+  -- what is known of the other nodes, and of this one
   each_of : (P : ℕ → node.Node F → Type 0) → P p m → ((k : ℕ) (x : node.Node F) → At ns k x → (k ≡ p → ⊥) → P k x) → (k : ℕ) (x : node.Node F) → At (set ns p m) k x → P k x
   each_of P mine others k x a =
       elim (set-at ns p m a) [

@@ -61,7 +61,7 @@ count_as states.Resident c = refl
 count_as states.Spilled c = refl
 count_as states.Broken c = refl
 
--- the number of points of the first nodes and of all, where the others are none
+-- the number of points of the first nodes is the number of all, if there are no others
 pub sum-first : (xs : List (Option grid.Node)) (n : ℕ) → ((k : ℕ) → n ≤ k → get_or xs k None ≡ None) → sum_by count_in (take n xs) ≡ sum_by count_in xs
 sum-first [] zero none = refl
 sum-first [] (suc n) none = refl

@@ -71,7 +71,7 @@ no-sites rest = record {
   together = refl;
 }
 
--- where each has none there are none
+-- if each has none, there are none
 pub none-together : {X : Type 0} (f : X → ℕ) (xs : List X) → All (λ x. f x ≡ 0) xs → sum_by f xs ≡ 0
 none-together f [] all = refl
 none-together f (x ∷ xs) all =

@@ -24,7 +24,7 @@ pub node-points : (rules : Rules) (points : List Point) (nodes : List Branch) (b
 node-points rules points nodes b are m =
     member_points rules points (tile_of b) (subst (λ (w : List Tile). IsMember (tile_of b) w) are.tiles (IsMember-map tile_of b nodes m))
 
--- and these have different ids
+-- and these points have different ids
 pub node-distinct : (rules : Rules) (points : List Point) → CanBeSampled rules points → (nodes : List Branch) → AreSampled rules points nodes → (b : Branch) → IsMember b nodes → HasDistinctIds b.1.points
 node-distinct rules points can nodes are b m =
     subst (λ (w : List Point). HasDistinctIds w) (sym (node-points rules points nodes b are m)) (HasDistinctIds-IsRising (sampling rules points b.0) (IsRising-sampling rules points b.0 can.distinct))

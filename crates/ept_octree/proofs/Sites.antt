@@ -135,7 +135,7 @@ put-between [] key k none = record {
 }
 put-between (s ∷ sites) key k none = put_step key k s sites (key_cmp key s.0) refl none (put-between sites key k)
 
--- the nodes by their keys with one more
+-- the nodes by their keys, with one more
 branch_step : (slots : List (Option grid.Node)) (s : Site) (sites : List Site) (key : VoxelKey) (k : ℕ) (o : Ordering) → branches slots (insert_entry key_cmp sites key k) ≡ insert_entry key_cmp (branches slots sites) key (node_or (node_in slots k)) → map (branch_at slots) (match_ordering o ((key, k) ∷ s ∷ sites) ((s.0, k) ∷ sites) (s ∷ insert_entry key_cmp sites key k)) ≡ match_ordering o ((key, node_or (node_in slots k)) ∷ branch_at slots s ∷ branches slots sites) ((s.0, node_or (node_in slots k)) ∷ branches slots sites) (branch_at slots s ∷ insert_entry key_cmp (branches slots sites) key (node_or (node_in slots k)))
 branch_step slots s sites key k Less more = refl
 branch_step slots s sites key k Equal more = refl

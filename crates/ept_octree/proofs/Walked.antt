@@ -72,21 +72,21 @@ module _ {F : Type 0} (held : F → Option (List ℕ)) (rules : Rules) (used : �
       pub walked-named : state_of n ≡ states.Blank → ⊥
       walked-named = shown.0
 
-      -- what holds of the node of the forest holds of that of the key
+      -- what holds of the node of the forest holds of the node of the key
       pub walked : (fact : grid.Node → Type 0) → fact (node_of held n) → IfNodeAt nodes key fact
       walked fact mine b m same =
           let r = site_of b m same in
           let one : r.0 ≡ slot = some-number r.0 slot (sym r.1 ∙ is) in
           subst (λ (h : grid.Node). fact h) (shown.1 ∙ (sym (ap node_or there.1) ∙ (ap (λ (k : ℕ). node_or (node_in (in_slots held ns) k)) (sym one) ∙ r.2))) mine
 
-      -- and the other way round
+      -- and the converse
       pub walked-back : (fact : grid.Node → Type 0) → IfNodeAt nodes key fact → fact (node_of held n)
       walked-back fact all =
           let m = IsMember-map (branch_at (in_slots held ns)) (key, slot) sites (slot-member sites key slot is) in
           let its : fact (node_or (node_in (in_slots held ns) slot)) = all (branch_at (in_slots held ns) (key, slot)) m refl in
           subst (λ (h : grid.Node). fact h) (ap node_or there.1 ∙ sym shown.1) its
 
--- ---- a node that shows what it showed, wherever its points are
+-- ---- a node that shows what it showed before, wherever its points are
 
 module _ {F : Type 0} (held : F → Option (List ℕ)) (ns : List (node.Node F)) (place : ℕ) (n m : node.Node F) (at : At ns place n) (was : state_of n ≡ states.Blank → ⊥) (is : state_of m ≡ states.Blank → ⊥) (same : node_of held m ≡ node_of held n) where
   named_is : (s : NodeState) (g : grid.Node) → (s ≡ states.Blank → ⊥) → named s g ≡ Some g

@@ -21,12 +21,12 @@ use Rattle.ept_octree.specs.declared.error.AddError.TheVariants as errors
 abbrev pub filled : VoxelKey → Rules → ℕ → List Point → grid.Node
 filled key rules mask points = record { key = key; rules = rules; points = points; mask = mask; room = grid.no_room }
 
--- no node has the key, or it is the root and there is no other node, nor a point
+-- no node has the key, or it is the root and there is no other node and no point
 abbrev pub IsFree : VoxelKey → List Branch → Type 0
 IsFree key nodes =
     ((b : Branch) → IsMember b nodes → b.0 ≡ key → ⊥) ⊎ ((key ≡ root) × (g : grid.Node) × (nodes ≡ (let b : Branch = (root, g) in b) ∷ []) × (g.points ≡ []))
 
--- it is the root, or one node more may be in memory
+-- the key is the root's, or one node more may be in memory
 abbrev pub HasRoomFor : {F : Type 0} → VoxelKey → Octree F → Type 0
 HasRoomFor key octree = (key ≡ root) ⊎ (residents_of octree < cache_of octree)
 
@@ -37,7 +37,7 @@ pub record IsInMemory {F : Type 0} (slot : ℕ) (nodes : List (Node F)) : Type 0
   pub at : At nodes (slot - 1) node
   pub state : state_of node ≡ Resident
 
--- want of memory, or what is wrong with the tile
+-- out of memory, or what is wrong with the tile
 abbrev pub of_grid : GridError → AddError
 of_grid faults.Memory = errors.Memory
 of_grid (faults.Outside at) = errors.Damaged (faults.Outside at)

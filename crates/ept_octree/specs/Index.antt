@@ -22,14 +22,14 @@ Site = VoxelKey × ℕ
 
 -- ---- what lies in the slots
 
--- the node, where it is one of a key
+-- the node, if it is a node of a key
 abbrev pub named : NodeState → grid.Node → Option grid.Node
 named Blank g = None
 named Resident g = Some g
 named Spilled g = Some g
 named Broken g = Some g
 
--- files that tell nothing
+-- files whose contents are not visible
 abbrev pub untold : {F : Type 0} → F → Option (List ℕ)
 untold file = None
 
@@ -76,11 +76,12 @@ abbrev pub key_seen : Option grid.Node → Option VoxelKey
 key_seen None = None
 key_seen (Some g) = Some g.key
 
--- the node has these rules, its points lie in its box, it is no deeper than the greatest depth, and there no octant is open
+-- the node has these rules, its points lie in its box, and it is no deeper than the greatest depth. At that depth no
+-- octant is open.
 abbrev pub IsSoundBy : Rules → grid.Node → Type 0
 IsSoundBy rules g = IsSound (record nothing_told { rules = rules }) (record { node = g; children = [] })
 
--- Of the slots from 1 to this one, the sites tell the slot of each key: where the node of that key stands.
+-- In the slots from 1 to this one, the sites have the slot of each key: the slot of its node.
 pub record AreSites (last : ℕ) (slots : List (Option grid.Node)) (sites : List Site) : Type 0 where
   pub many : length sites ≡ last
   pub ascend : AreAscending (map (λ (s : Site). s.0) sites)
@@ -88,7 +89,8 @@ pub record AreSites (last : ℕ) (slots : List (Option grid.Node)) (sites : List
   pub listed : (key : VoxelKey) (k : ℕ) → 0 < k → k ≤ last → key_seen (node_in slots k) ≡ Some key → slot_of sites key ≡ Some k
   pub together : length (points_in (branches slots sites)) ≡ sum_by count_in (take (suc last) slots)
 
--- Nodes stand in the slots from 1 to the last that is used, that of the root in slot 1, and in no other, and the sites tell where.
+-- The slots from 1 to the last that is used have nodes, the root in slot 1, and no other slot has one. The sites have
+-- the slot of each key.
 pub record IsIndex (rules : Rules) (used : ℕ) (slots : List (Option grid.Node)) (sites : List Site) : Type 0 where
   pub are : AreSites used slots sites
   pub low : used < length slots

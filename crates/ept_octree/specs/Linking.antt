@@ -13,7 +13,8 @@ abbrev pub or_zero : Option ℕ → ℕ
 or_zero None = 0
 or_zero (Some k) = k
 
--- the slot of the child of an octant: that of the node of its key, or 0 where there is none or the octant is closed
+-- the slot of the child of an octant: the slot of the node of its key. It is 0 if there is none or the octant is
+-- closed.
 abbrev pub child_slot : List Site → grid.Node → ℕ → ℕ
 child_slot sites g o = if is_open_in g o then or_zero (slot_of sites (child g.key o)) else 0
 
@@ -28,10 +29,10 @@ module _ {F : Type 0} (held : F → Option (List ℕ)) where
     pub state : state_of n ≢ Blank
     pub above : (o : ℕ) → o < 8 → is_open_in (node_of held n) o ≡ true → (node_of held n).key.depth < 31
 
-  -- so may the first nodes, so many
+  -- so may the first `used` nodes
   abbrev pub MayAllLink : List (Node F) → ℕ → Type 0
   MayAllLink nodes used = (k : ℕ) (n : Node F) → At nodes k n → k < used → MayLink n
 
-  -- the first nodes, so many, have the slots of their children
+  -- the first `used` nodes have the slots of their children
   abbrev pub HaveChildren : List Site → List (Node F) → ℕ → Type 0
   HaveChildren sites nodes used = (k : ℕ) (n : Node F) → At nodes k n → k < used → HasChildren sites n

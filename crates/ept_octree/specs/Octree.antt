@@ -13,7 +13,7 @@ use Rattle.ept_octree.specs.declared.octree.Octree.{Octree}
 use Rattle.ept_octree.specs.Index.{in_slots, taken_in, branches}
 
 module _ {F : Type 0} where
-  -- the forest in whose slots its nodes stand
+  -- the forest in whose slots its nodes are
   abbrev pub forest_of : Octree F → Forest F
   forest_of octree = octree.forest
 
@@ -21,7 +21,7 @@ module _ {F : Type 0} where
   abbrev pub rules_of : Octree F → Rules
   rules_of octree = octree.rules
 
-  -- how many nodes it may have
+  -- the limit of its number of nodes
   abbrev pub most_of : Octree F → ℕ
   most_of octree = length (forest.nodes_of (forest_of octree))
 
@@ -29,7 +29,7 @@ module _ {F : Type 0} where
   abbrev pub cache_of : Octree F → ℕ
   cache_of octree = octree.cache
 
-  -- how many of them are
+  -- how many of them are in memory
   abbrev pub residents_of : Octree F → ℕ
   residents_of octree = forest.residents_of (forest.nodes_of (forest_of octree))
 
@@ -46,7 +46,7 @@ module _ {F : Type 0} where
   AgreesWithFiles held faults keeps octree = All (AgreesWithFile held faults keeps) (forest.nodes_of (forest_of octree))
 
 module _ {F : Type 0} (held : F → Option (List ℕ)) where
-  -- its nodes by their keys, in key order: those in files with the points that the files tell
+  -- its nodes by their keys, in key order: a node in its file has the points that are visible in the file
   abbrev pub nodes_of : Octree F → List Branch
   nodes_of octree = branches (in_slots held (forest.nodes_of (forest_of octree))) octree.slots.entries
 
@@ -54,7 +54,7 @@ module _ {F : Type 0} (held : F → Option (List ℕ)) where
   abbrev pub points_of : Octree F → List Point
   points_of octree = points_in (nodes_of octree)
 
-  -- the keys of its nodes in the order of their slots: those of the nodes that stand as a table is made of it
+  -- the keys of its nodes in the order of their slots: the nodes that are there when a table is made of it
   abbrev pub begun_of : Octree F → List VoxelKey
   begun_of octree = keys_in (taken_in held (forest.nodes_of (forest_of octree)))
 
@@ -79,6 +79,6 @@ module _ {F : Type 0} (held : F → Option (List ℕ)) where
   GrowsWhole old new =
       IsWhole old → IsWhole new × KeepsNodes (map entry_of (nodes_of old)) (map entry_of (nodes_of new))
 
--- the same nodes but for which points each has: as many
+-- the same nodes except for which points each has: the same number
 abbrev pub AreAlike : List Branch → List Branch → Type 0
 AreAlike old new = AllZip (λ (a b : Branch). (b.0 ≡ a.0) × IsAlike a.1 b.1) old new

@@ -3,7 +3,7 @@ use Rattle.std.specs.Prelude.{◌≡◌, ℕ, ◌<◌, ◌≤◌, true, List, le
 use Rattle.ept_grid.specs.Node as grid
 use Rattle.ept_octree.specs.Index.{node_in}
 
--- nodes stand in the slots from 1 to this one, no two of one key
+-- the slots from 1 to this one have nodes, no two of one key
 pub record StandApart (last : ℕ) (slots : List (Option grid.Node)) : Type 0 where
   pub low : last < length slots
   pub filled : (k : ℕ) → 0 < k → k ≤ last → is_some (node_in slots k) ≡ true

@@ -9,6 +9,6 @@ use Rattle.ept_table.specs.Octree.{Branch}
 abbrev pub HasKey : List Branch → VoxelKey → Type 0
 HasKey nodes key = (b : Branch) × IsMember b nodes × (b.0 ≡ key)
 
--- of the node of the key this holds
+-- this holds of the node of the key
 abbrev pub IfNodeAt : List Branch → VoxelKey → (grid.Node → Type 0) → Type 0
 IfNodeAt nodes key fact = (b : Branch) → IsMember b nodes → b.0 ≡ key → fact b.1

@@ -24,14 +24,14 @@ use std::alloc::Global;
 impl<F: SpillFile> Octree<F> {
     ghost use Rattle.ept_octree.specs.Octree.{forest_of, rules_of, most_of, cache_of, residents_of, nodes_of, AreAlike, IsUnbroken, AgreesWithFiles};
 
-    /// Adds a node of a checkpoint, whose ids ascend. It goes to its file where no more nodes could be in memory then. The
-    /// slots of the children are set by `link`, once all are added.
+    /// Adds a node of a checkpoint, whose ids ascend. If no further node could then be in memory, the node goes to its
+    /// file. The slots of the children are set by `link`, once all are added.
     ///
     /// # Errors
     ///
-    /// `Full` where it has as many nodes as it may have, which the root never meets, and `Damaged` where the points and the
-    /// open octants are none of a node of the key: the nodes are as they were then. After `SpillFault` and `Memory` the octree
-    /// is of no use.
+    /// `Full` if it has its greatest number of nodes already, which never happens to the root. `Damaged` if the points
+    /// and the open octants are not those of a node of the key. After both the nodes are as they were. After
+    /// `SpillFault` and `Memory` the octree is of no use.
     pub fn add(
         &mut self,
         alloc: Global,
@@ -47,7 +47,7 @@ impl<F: SpillFile> Octree<F> {
         requires agrees { AgreesWithFiles F.held F.faults F.keeps self.old }
         requires unbroken { IsUnbroken self.old }
 
-        // Where files tell it has these points, else as many.
+        // If the contents of files are visible, it has these points. Otherwise it has the same number of points.
         ensures ok { OnOk result (AreAlike (insert_entry key_cmp (nodes_of F.held self.old) key
             (filled key (rules_of self.old) mask points.now)) (nodes_of F.held self.new)) }
         ensures told { OnOk result (IsTelling F.held → nodes_of F.held self.new ≡ insert_entry key_cmp (nodes_of F.held self.old) key
@@ -81,7 +81,7 @@ impl<F: SpillFile> Octree<F> {
         }
     }
 
-    // Gives the node of a key its place and its points, in memory, and answers its slot.
+    // Gives the node of a key its place and its points, in memory, and returns its slot.
     fn place(
         &mut self,
         alloc: Global,
@@ -167,7 +167,7 @@ fn fill<F: SpillFile>(
     Ok(())
 }
 
-// Makes a blank node that of a key with these points and open octants. After a refusal it is blank.
+// Makes a blank node one of a key with these points and open octants. After a refusal it is blank.
 fn plant<F: SpillFile>(
     node: &mut Node<F>,
     alloc: Global,

@@ -6,7 +6,7 @@ use std::alloc::AllocFailed;
 /// Why a node is not added to an octree.
 #[derive(Clone, Copy, Debug, PartialEq, Eq)]
 pub enum AddError {
-    /// The octree has as many nodes as it may have.
+    /// The octree has its greatest number of nodes.
     Full,
     /// The points and the open octants are not those of a node of the key, by this first cause.
     Damaged(GridError),

@@ -73,7 +73,7 @@ fn link_node<F: SpillFile>(node: &mut Node<F>, slots: &BTreeMap<Key, u32>)
     }
 }
 
-// The slot of the child of an octant, or 0 where there is none.
+// The slot of the child of an octant, or 0 if there is none.
 fn slot_of_child(slots: &BTreeMap<Key, u32>, key: &Key, mask: u8, octant: u8) -> u32
     requires one_of_eight { octant < 8 }
     requires above { opened mask octant ≡ true → key.now.depth < 31 }

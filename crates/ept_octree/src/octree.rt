@@ -20,7 +20,7 @@ use std::collections::BTreeMap;
 
 /// An octree of nodes in the slots of a forest, between the phases of a build.
 ///
-/// It can't be dropped where its spill files can't: their room takes them back by `retire_all`.
+/// It can't be dropped if its spill files can't: their room takes them back by `retire_all`.
 pub struct Octree<F> {
     pub(crate) forest: Forest<F>,
     pub(crate) slots: BTreeMap<Key, u32>,
@@ -29,8 +29,8 @@ pub struct Octree<F> {
     // How many nodes may be in memory, and how many are.
     pub(crate) cache: u32,
     pub(crate) here: u32,
-    // Whatever the files tell: it speaks of no more than the key, the rules, the open octants and the count of a node in its
-    // file.
+    // It holds whatever the files hold. It speaks only of the key, the rules, the open octants and the count of a node
+    // in its file.
     ghost indexed: { IsIndex rules (trees.used_of forest) (in_slots untold (trees.nodes_of forest)) slots.entries } by { Prim.hlevel props },
     ghost limit: { most ≡ length (trees.nodes_of forest) },
     ghost some: { 1 ≤ cache },
@@ -41,12 +41,12 @@ pub struct Octree<F> {
 impl<F: SpillFile> Octree<F> {
     ghost use Rattle.ept_octree.specs.Octree.{forest_of, rules_of, most_of, cache_of, residents_of, nodes_of, HasOwnNodes, IsShallow, IsWhole, IsLinked, IsUnbroken, AgreesWithFiles};
 
-    /// The octree of no points, of at most so many nodes, so many of them in memory: its root. After a refusal the room has
-    /// its files back.
+    /// The octree of no points: its root, in memory. It may have `most` nodes at most, and at most `cache` of them in
+    /// memory. After a refusal the room has its files back.
     ///
     /// # Errors
     ///
-    /// `Failed` where the room fails to make a file.
+    /// `Failed` if the room fails to make a file.
     pub fn new<R: Room<File = F>>(
         alloc: Global,
         room: &mut R,
@@ -96,7 +96,7 @@ impl<F: SpillFile> Octree<F> {
         &self.rules
     }
 
-    /// How many nodes it may have.
+    /// The limit of its number of nodes.
     pub fn most(&self) -> u32
         ensures { result ≡ most_of self.now }
     {
@@ -113,7 +113,7 @@ impl<F: SpillFile> Octree<F> {
         self.cache
     }
 
-    /// How many nodes it has. Each but those that may be in memory was kept by its file, where none is broken.
+    /// How many nodes it has. If none is broken, each node except those that may be in memory was kept by its file.
     pub fn len(&self) -> u64
         ensures number { result ≡ length (nodes_of F.held self.now) }
         ensures few { length (nodes_of F.held self.now) ≤ most_of self.now }
@@ -127,7 +127,7 @@ impl<F: SpillFile> Octree<F> {
         self.slots.len() as u64
     }
 
-    /// Gives all spill files back to their room. It takes no memory.
+    /// Returns all spill files to their room. It takes no memory.
     pub fn retire_all<R: Room<File = F>>(self, room: &mut R)
         ensures later { R.faults room.old ≤ R.faults room.new }
         ensures failed { 0 < trees.faults_of F.faults (trees.nodes_of (forest_of self)) → Rose (R.faults room.old) (R.faults room.new) }
@@ -145,7 +145,7 @@ impl<F: SpillFile> Octree<F> {
         forest.retire_all(room);
     }
 
-    /// The forest in whose slots the nodes stand.
+    /// The forest in whose slots the nodes are.
     pub fn into_forest(self) -> Forest<F>
         ensures { result ≡ forest_of self }
     {

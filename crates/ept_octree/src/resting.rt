@@ -48,12 +48,12 @@ pub fn rest_law<F: SpillFile, S: Source, J: Scan>(octree: &Octree<F>, reader: &R
 }
 
 impl<F: SpillFile> Octree<F> {
-    /// The octree of what a table has left: its forest, with the reader that has drawn the points. So many of its nodes may be
-    /// in memory.
+    /// The octree of what a table has left: its forest, with the reader that has drawn the points. At most `cache` of
+    /// its nodes may be in memory.
     ///
     /// # Errors
     ///
-    /// Where there is no memory the forest comes back.
+    /// If there is no memory, the forest is returned.
     pub fn from_forest<S: Source, J: Scan>(
         alloc: Global,
         forest: Forest<F>,
@@ -95,7 +95,7 @@ impl<F: SpillFile> Octree<F> {
     }
 }
 
-// The slots of the keys of the first nodes, so many, no two of which have one key.
+// The slots of the keys of the first `used` nodes, no two of which have one key.
 fn slots_of<F: SpillFile>(
     alloc: Global,
     nodes: &[Node<F>],

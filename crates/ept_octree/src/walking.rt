@@ -35,7 +35,7 @@ impl<F: SpillFile> Octree<F> {
         Ok(keys)
     }
 
-    /// The open octants of the node of a key: bit o is set where octant o is open.
+    /// The open octants of the node of a key: bit o is set if octant o is open.
     pub fn open_mask(&mut self, key: &Key) -> u8
         requires { HasKey (nodes_of F.held self.old) key.now }
         ensures mask { IfNodeAt (nodes_of F.held self.old) key.now (λ g. result ≡ g.mask) }
@@ -65,7 +65,7 @@ impl<F: SpillFile> Octree<F> {
     ///
     /// # Errors
     ///
-    /// `SpillFault` and `SpillDamaged` where the file of the node does not give them back, or a file failed before. After a
+    /// `SpillFault` and `SpillDamaged` if the file of the node does not return them, or a file failed before. After a
     /// refusal the list is as it was.
     pub fn points_into(
         &mut self,
@@ -76,7 +76,8 @@ impl<F: SpillFile> Octree<F> {
         requires key { HasKey (nodes_of F.held self.old) key.now }
         requires agrees { AgreesWithFiles F.held F.faults F.keeps self.old }
 
-        // Where files tell, they are its points; else as many, in id order and in its box.
+        // If the contents of files are visible, they are its points. Otherwise it is the same number of points, in id
+        // order and in its box.
         ensures ok { OnOk result (IfNodeAt (nodes_of F.held self.old) key.now (λ g. AppendsAlike g out.old.items out.new.items)) }
         ensures told { OnOk result (IsTelling F.held → IfNodeAt (nodes_of F.held self.old) key.now
             (λ g. out.new.items ≡ out.old.items ++ g.points)) }
@@ -94,7 +95,7 @@ impl<F: SpillFile> Octree<F> {
         ensures most { most_of self.new ≡ most_of self.old }
         ensures cache { cache_of self.new ≡ cache_of self.old }
 
-        // Why it is refused. No file that tells is damaged.
+        // Why it is refused. No file whose contents are visible is damaged.
         ensures spill { result ≡ Err NodeError.SpillFault
             → 0 < trees.faults_of F.faults (trees.nodes_of (forest_of self.new)) }
         ensures intact { IsUnbroken self.old → IsTelling F.held
@@ -106,7 +107,7 @@ impl<F: SpillFile> Octree<F> {
     }
 }
 
-// Appends the points of the node of a key, in id order, or answers why the node is broken.
+// Appends the points of the node of a key, in id order, or returns why the node is broken.
 fn append<F: SpillFile>(
     node: &mut Node<F>,
     alloc: Global,

@@ -16,7 +16,7 @@ use Rattle.ept_point.proofs.PackedLaws.{append_same, length-packed, packed_one, 
 abbrev front_bytes : Point → List (List ℕ)
 front_bytes p = map (λ field. bytes_of field.0 field.1) (front_fields p)
 
--- a number of four bytes has four zeros behind them in eight
+-- a number of four bytes has four zeros after them in eight
 eight_of_four : (n : ℕ) → n < 2 ^ 32 → little_endian 8 n ≡ little_endian 4 n ++ no_high_bytes
 unfolding little_endian
 eight_of_four n h =
@@ -38,7 +38,7 @@ old_parts : (p : Point) → old_packed p ≡ concat (front_bytes p) ++ little_en
 unfolding old_packed
 old_parts p = one_more (front_bytes p) (little_endian 4 p.number)
 
--- the packed form of a point that fits the old layout has zeros behind the old one
+-- the packed form of a point that fits the old layout has zeros after the old one
 pub packed_of_old : (p : Point) → FitsIn Old p → packed p ≡ old_packed p ++ no_high_bytes
 packed_of_old p fits =
     packed_parts p
@@ -50,7 +50,7 @@ length-old_packed : (p : Point) → length (old_packed p) ≡ old_width
 unfolding old_packed little_endian
 length-old_packed p = simp (length-append, p.widths.gps_length)
 
--- ---- what eight bytes say of a number, of which the last four are 0
+-- ---- what eight bytes, the last four of them 0, say of a number
 
 length-front : (p : Point) → length (concat (front_bytes p)) ≡ 45
 unfolding little_endian
@@ -78,7 +78,7 @@ fits_old bytes p len e =
     (sym (packed_parts p) ∙ e ∙ ap (λ (t : List ℕ). t ++ no_high_bytes) (sym (take-append-drop 45 bytes)) ∙ append_assoc (take 45 bytes) (drop 45 bytes) no_high_bytes) in
     four_of_eight p.number (drop 45 bytes) p.widths.number_fits (omega (arith, length-drop 45 bytes, len)) parts.1
 
--- the old bytes in front of 53 zeros
+-- the old bytes before 53 zeros
 pub put_before : (bytes all : List ℕ) → length bytes ≡ old_width → all ≡ bytes ++ drop (length bytes) (replicate 53 0) → all ≡ bytes ++ no_high_bytes
 put_before bytes all len is = is ∙ ap (λ (n : ℕ). bytes ++ drop n (replicate 53 0)) len
 
@@ -95,7 +95,7 @@ read_old bytes all (Some p) len same e =
 
 -- ---- both layouts
 
--- a point takes as many bytes as the layout is wide
+-- a point takes the number of bytes that is the width of the layout
 pub length-packed_in : (layout : Layout) (p : Point) → length (packed_in layout p) ≡ width_of layout
 length-packed_in Old p = length-old_packed p
 length-packed_in New p = length-packed p
@@ -111,7 +111,7 @@ pub within_bounds_in : (layout : Layout) (p : Point) → FitsIn layout p → Has
 within_bounds_in Old p fits above = packed_within_bounds p (subst HasFieldAboveBound (sym (packed_of_old p fits)) above)
 within_bounds_in New p fits above = packed_within_bounds p above
 
--- the packed form is of a point that fits
+-- the bytes are the packed form of a point that fits
 pub packed_parts_in : (layout : Layout) (bytes : List ℕ) (p : Point) → IsPackedIn layout bytes p → (bytes ≡ packed_in layout p) × FitsIn layout p
 packed_parts_in Old bytes p is = is
 packed_parts_in New bytes p is = (is, tt)
@@ -120,7 +120,7 @@ pub is_packed : (layout : Layout) (bytes : List ℕ) (p : Point) → bytes ≡ p
 is_packed Old bytes p e fits = (e, fits)
 is_packed New bytes p e fits = e
 
--- and a tile of points that do
+-- and a tile of points that fit
 each_fits_new : (points : List Point) → AllByRecursion (FitsIn New) points
 each_fits_new [] = tt
 each_fits_new (p ∷ points) = (tt, each_fits_new points)

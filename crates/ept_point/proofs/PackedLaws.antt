@@ -34,7 +34,7 @@ pub pieces_of_packed : (p : Point) → pieces 0 dimensions (packed p) ≡ map pi
 unfolding packed field_bytes
 pieces_of_packed p = pieces_of_fields [] (map piece_of (fields p)) (each_has_its_width p)
 
--- a number is read of its bytes
+-- a number is read back from its bytes
 read_1 : (n : ℕ) → n < 2 ^ 8 → number_in (little_endian 1 n) ≡ n
 unfolding little_endian
 read_1 n h = omega arith
@@ -138,7 +138,7 @@ pub length-packed : (p : Point) → length (packed p) ≡ packed_width
 unfolding packed field_bytes little_endian
 length-packed p = simp (length-append, p.widths.gps_length)
 
--- what no element has, none of them has
+-- if no element has a property, then none in the list has it
 pub none_by_recursion : {X : Type 0} (P : X → Type 0) (xs : List X) → AllByRecursion (λ x. ¬ P x) xs → ¬ Any P xs
 none_by_recursion P [] h (k, x, small, is, holds) = absurd (omega arith)
 none_by_recursion P (y ∷ xs) h (zero, x, small, is, holds) = h.0 (subst P (sym is) holds)

@@ -84,7 +84,7 @@ pub word_8 : (x : List ℕ) (n : ℕ) → length x ≡ 8 → ((i : ℕ) → get_
 unfolding little_endian
 word_8 x n len bytes e = le_bytes_8 x n len bytes e
 
--- a signed number is what is read of its bits
+-- a signed number is what is read from its bits
 pub signed : (w : Width) (z : ℤ) (x : List ℕ) → FitsSigned w z → x ≡ to_le_bytes w (cast_unsigned w (cast_signed w (cast_unsigned w z))) → x ≡ to_le_bytes w (cast_unsigned w z)
 signed w z x fits e = e ∙ ap (λ (y : ℤ). to_le_bytes w (cast_unsigned w y)) (to_z-of_z w z fits)
 

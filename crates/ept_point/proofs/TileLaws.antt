@@ -46,7 +46,7 @@ last_id_more [] p = refl
 last_id_more (q ∷ []) p = refl
 last_id_more (q ∷ r ∷ points) p = last_id_more (r ∷ points) p
 
--- a list ascends with one more point exactly where that comes after the last
+-- an ascending list still ascends with one more point that comes after the last
 pub ascends_more : (points : List Point) (p : Point) → IsAscending points → IfSome (last_id points) (λ a. IsBefore a (id p)) → IsAscending (points ++ p ∷ [])
 ascends_more [] p h after = (tt, tt)
 ascends_more (q ∷ []) p h after = (after, (tt, tt))
@@ -57,7 +57,7 @@ last_before [] p h = tt
 last_before (q ∷ []) p h = h.0
 last_before (q ∷ r ∷ points) p h = last_before (r ∷ points) p h.1
 
--- a front of an ascending list ascends
+-- a prefix of an ascending list ascends
 pub ascends_front : (front back : List Point) → IsAscending (front ++ back) → IsAscending front
 ascends_front [] back h = tt
 ascends_front (p ∷ []) back h = (tt, tt)
@@ -163,7 +163,7 @@ module _ (layout : Layout) where
   lengths : (bytes rest : List ℕ) (old new : List Point) (last : Option PointId) (at : ℕ) (r : IsReadTo bytes rest old new last at) → length bytes ≡ width_of layout * length r.points + length rest
   lengths bytes rest old new last at r = rw (r.parts, length-append (tile_in layout r.points) rest, length-tile_in layout r.points) refl
 
-  -- where too few bytes are left for a point none are
+  -- if too few bytes are left for a point, there are no bytes left
   pub read_all : (bytes rest : List ℕ) (old new : List Point) (last : Option PointId) (at : ℕ) → IsReadTo bytes rest old new last at → length bytes % width_of layout ≡ 0 → length rest < width_of layout → (points : List Point) × ReadsIn layout bytes (Ok points) × (new ≡ old ++ points)
   read_all bytes rest old new last at r whole short =
       let none : length rest ≡ 0 = none_left layout (length bytes) (length r.points) (length rest) (lengths bytes rest old new last at r) whole short in
@@ -202,7 +202,7 @@ module _ (layout : Layout) where
       point_fault bytes rest old new last at e r whole (subst (λ (w : ℕ). w ≤ length rest) wide enough)
       (subst (λ (t : List ℕ). IsPointFault layout t last at e) (front_is ∙ ap (λ (n : ℕ). take n rest) wide) f)
 
-  -- of two tiles that begin the same bytes the shorter one begins the longer one
+  -- if two tiles are prefixes of the same bytes, the shorter one is a prefix of the longer one
   tile_front : (a b : List Point) (x y : List ℕ) → AllByRecursion (FitsIn layout) a → AllByRecursion (FitsIn layout) b → tile_in layout a ++ x ≡ tile_in layout b ++ y → length a ≤ length b → (c : List Point) × (b ≡ a ++ c) × (x ≡ tile_in layout c ++ y)
   tile_front [] b x y fit_a fit_b e h = (b, refl, e)
   tile_front (p ∷ a) [] x y fit_a fit_b e h = absurd (omega arith)
@@ -211,7 +211,7 @@ module _ (layout : Layout) where
       let rest = tile_front a b x y fit_a.1 fit_b.1 parts.1 (omega arith) in
       (rest.0, cc (packed_in_one layout p q fit_a.0 fit_b.0 parts.0, rest.1), rest.2)
 
-  -- what cannot be said of a point that stands in an ascending tile
+  -- what can't be said of a point that is in an ascending tile
   abbrev IsNoFault : (List Point → List ℕ → Type 0) → Type 0
   IsNoFault IsFaulty = (before later : List Point) (piece : List ℕ) (p : Point) → piece ≡ packed_in layout p → FitsIn layout p → IsAscending (before ++ p ∷ later) → IsFaulty before piece → ⊥
 
@@ -235,7 +235,7 @@ module _ (layout : Layout) where
       let tile_is = tile_parts_in layout f.front f.before f.is_front in
       (f.parts ∙ ap (λ (t : List ℕ). t ++ (f.piece ++ f.rest)) tile_is.0, tile_is.1)
 
-  -- a point at the place of a fault, in a tile that begins the bytes
+  -- a point at the place of a fault, in a tile that is a prefix of the bytes
   point_at_fault : (bytes : List ℕ) (at : ℕ) (IsFaulty : List Point → List ℕ → Type 0) → IsNoFault IsFaulty → HasFaultAt layout bytes at IsFaulty → (b : List Point) (y : List ℕ) → bytes ≡ tile_in layout b ++ y → AllByRecursion (FitsIn layout) b → IsAscending b → length b ≤ at
   point_at_fault bytes at IsFaulty none f b y e fit ascends =
       elim (cases_lt at (length b)) [
@@ -263,7 +263,7 @@ module _ (layout : Layout) where
       omega (arith, len, length-tile_in layout points, length-tile_in layout f.before, f.piece_length, length-append (tile_in layout f.before) (f.piece ++ f.rest), length-append f.piece f.rest) in
       no_more layout (length f.before) (length points) (length f.rest) sum (omega (arith, short, f.place))
 
-  -- two first faults are at one place
+  -- two first faults are at the same place
   same_place : (bytes : List ℕ) (j k : ℕ) (F G : List Point → List ℕ → Type 0) → IsNoFault F → IsNoFault G → HasFaultAt layout bytes j F → HasFaultAt layout bytes k G → j ≡ k
   same_place bytes j k F G no_f no_g f g =
       let before_f = front_of bytes j F f in
@@ -295,7 +295,7 @@ module _ (layout : Layout) where
       let none : length front.0 ≡ 0 = omega (arith, len, ap length front.1, length-append a front.0) in
       sym (front.1 ∙ ap (λ (c : List Point). a ++ c) (nil_from_length front.0 none) ∙ append-nil a)
 
-  -- two tiles of the same bytes, and a tile beside bytes of no whole points
+  -- two tiles of the same bytes are the same
   same_reading : (bytes : List ℕ) (a b : List Point) → IsTileIn layout bytes a → IsTileIn layout bytes b → a ≡ b
   same_reading bytes a b is_a is_b =
       let of_a = tile_parts_in layout bytes a is_a in
@@ -335,7 +335,7 @@ module _ (layout : Layout) where
   reads_once bytes (Err (Order j)) (Err Memory) h g = absurd g
   reads_once bytes (Err Memory) s h g = absurd h
 
-  -- an answer that is a reading is that of any reading
+  -- a result that is a reading is that of any reading
   pub appends_reading : (bytes : List ℕ) (result : Result (Unit {0}) TileError) (old new : List Point) → OnOk result ((points : List Point) × ReadsIn layout bytes (Ok points) × (new ≡ old ++ points)) → IfErr result (λ e. e ≢ Memory → ReadsIn layout bytes (Err e)) → OnErr result (new ≡ old) → (reading : Result (List Point) TileError) → ReadsIn layout bytes reading → AppendsReading result old new reading
   appends_reading bytes (Ok done) old new ok fault err reading h = (ok.0, reads_once bytes reading (Ok ok.0) h ok.1, ok.2)
   appends_reading bytes (Err Length) old new ok fault err reading h = (reads_once bytes reading (Err Length) h (fault (λ e. cc)), err)

@@ -9,7 +9,7 @@ use Rattle.ept_point.specs.Packed.{number_in, little_endian, packed, field_bytes
 use Rattle.ept_point.proofs.Pieces.{cut}
 use Rattle.ept_point.proofs.PackedLaws.{none_by_recursion, packed_within_bounds}
 
--- each field of the point is what stands at its place
+-- each field of the point is what is at its place
 pub record IsReadFrom (b : List ℕ) (p : Point) : Type 0 where
   pub at_x : little_endian 4 (cast_unsigned w32 p.x) ≡ take 4 (drop 0 b)
   pub at_y : little_endian 4 (cast_unsigned w32 p.y) ≡ take 4 (drop 4 b)
@@ -88,7 +88,7 @@ pub above_channel : (b : List ℕ) → 3 < byte_at b 20 → HasFieldAboveBound b
 unfolding HasFieldAboveBound
 above_channel b h = (10, (ScanChannel, take 1 (drop 20 b)), omega arith, refl, h)
 
--- no bounded field is
+-- no bounded field is above its greatest value
 pub none_is_above : (b : List ℕ) → byte_at b 14 ≤ 15 → byte_at b 15 ≤ 15 → byte_at b 16 ≤ 1 → byte_at b 17 ≤ 1 → byte_at b 19 ≤ 15 → byte_at b 20 ≤ 3 → ¬ HasFieldAboveBound b
 unfolding HasFieldAboveBound
 none_is_above b h_return_number h_number_of_returns h_scan_direction h_edge h_class_flags h_channel above =
@@ -158,7 +158,7 @@ none_is_above b h_return_number h_number_of_returns h_scan_direction h_edge h_cl
     )
     above
 
--- and then the bytes are no point's
+-- and then the bytes are not those of a point
 pub no_point : (b : List ℕ) (result : Option Point) → HasFieldAboveBound b → (p : Point) → packed p ≡ b → result ≡ Some p
 no_point b result above p e = absurd (packed_within_bounds p (subst HasFieldAboveBound (sym e) above))
 

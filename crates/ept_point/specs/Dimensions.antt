@@ -7,7 +7,8 @@ use Rattle.std.specs.List.{sum_by}
 pub data Kind : Type 0 where
   Signed Unsigned Float : Kind
 
--- a dimension: its name, how its bytes are read, how many bytes it takes, and the greatest value, where that is less than the bytes hold
+-- a dimension: its name, how its bytes are read, how many bytes it takes, and a greatest value. That is given only if
+-- it is less than the bytes hold.
 pub record Dimension : Type 0 where
   pub name : List ℕ
   pub kind : Kind
@@ -89,7 +90,7 @@ OriginId = whole (codes "OriginId") Unsigned 4
 abbrev pub PointId : Dimension
 PointId = whole (codes "PointId") Unsigned 8
 
--- the same number as the old layout has it
+-- the same number as it is in the old layout
 abbrev pub OldPointId : Dimension
 OldPointId = whole (codes "PointId") Unsigned 4
 
@@ -102,11 +103,11 @@ dimensions =
 
 -- ---- what a row says
 
--- how many bytes all of them take
+-- how many bytes all dimensions take
 abbrev pub packed_width : ℕ
 packed_width = sum_by (λ dimension. dimension.width) dimensions
 
--- and in the old layout
+-- and how many in the old layout
 abbrev pub old_width : ℕ
 old_width = packed_width - PointId.width + OldPointId.width
 
@@ -127,11 +128,12 @@ word dimension =
 abbrev pub FitsInSigned : Dimension → ℤ → Type 0
 FitsInSigned dimension z = FitsSigned (word dimension) z
 
--- a number is at most the greatest value of a dimension, where it has one
+-- a number is at most the greatest value of a dimension, if it has one
 abbrev pub IsWithin : Dimension → ℕ → Type 0
 IsWithin dimension n = IfSome dimension.greatest (λ greatest. n ≤ greatest)
 
--- each dimension with its piece of some bytes: as many as it is wide, the first from this place on, each later one behind the one before it
+-- each dimension with its piece of some bytes, which is as wide as the dimension. The first piece starts at this place,
+-- each later one after the one before it.
 abbrev pub pieces : ℕ → List Dimension → List ℕ → List (Dimension × List ℕ)
 pieces at [] bytes = []
 pieces at (dimension ∷ later) bytes =

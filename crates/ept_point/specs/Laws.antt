@@ -18,7 +18,7 @@ EachPieceIsItsField = (p : Point) → pieces 0 dimensions (packed p) ≡ map (λ
 abbrev pub EachPieceReadsAsItsField : Type 0
 EachPieceReadsAsItsField = (p : Point) → map read (pieces 0 dimensions (packed p)) ≡ fields p
 
--- a packed point takes as many bytes as its dimensions
+-- a packed point takes the number of bytes that its dimensions take together
 abbrev pub EachHasPackedLength : Type 0
 EachHasPackedLength = (p : Point) → length (packed p) ≡ packed_width
 
@@ -40,11 +40,11 @@ abbrev pub ReadInOneWay : Type 0
 ReadInOneWay =
     (layout : Layout) (bytes : List ℕ) (r s : Result (List Point) TileError) → ReadsIn layout bytes r → ReadsIn layout bytes s → r ≡ s
 
--- the old form of a point that it has is the packed one without its last four bytes, which are 0
+-- the old form of a point that fits it is the packed form without its last four bytes, which are 0
 abbrev pub OldFormLacksZeros : Type 0
 OldFormLacksZeros = (p : Point) → FitsIn Old p → packed p ≡ old_packed p ++ no_high_bytes
 
--- two points that a layout has, with the same bytes there, are the same
+-- two points that fit a layout, with the same bytes in it, are the same
 abbrev pub EachLayoutIsOfOne : Type 0
 EachLayoutIsOfOne =
     (layout : Layout) (p q : Point) → FitsIn layout p → FitsIn layout q → packed_in layout p ≡ packed_in layout q → p ≡ q
@@ -53,10 +53,10 @@ EachLayoutIsOfOne =
 abbrev pub NoneIsBeforeItself : Type 0
 NoneIsBeforeItself = (a : PointId) → ¬ IsBefore a a
 
--- what is before an id is before those behind it
+-- what is before an id is before those after it
 abbrev pub BeforeIsTransitive : Type 0
 BeforeIsTransitive = (a b c : PointId) → IsBefore a b → IsBefore b c → IsBefore a c
 
--- of two different ids one is before the other
+-- if two ids are different, one is before the other
 abbrev pub EitherIsBefore : Type 0
 EitherIsBefore = (a b : PointId) → (a ≡ b) ⊎ (IsBefore a b ⊎ IsBefore b a)

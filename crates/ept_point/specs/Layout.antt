@@ -21,12 +21,12 @@ packed_in New = packed
 abbrev pub tile_in : Layout → List Point → List ℕ
 tile_in layout points = flat_map (packed_in layout) points
 
--- the number of a point fits the bytes that it has: in the new layout each does
+-- the number of a point fits its bytes; in the new layout each number does
 abbrev pub FitsIn : Layout → Point → Type 0
 FitsIn Old p = Fits OldPointId p.number
 FitsIn New p = ⊤
 
--- the four bytes that the old layout lacks, of each number that fits it
+-- the four bytes of each number that the old layout lacks, if the number fits it
 abbrev pub no_high_bytes : List ℕ
 no_high_bytes = 0 ∷ 0 ∷ 0 ∷ 0 ∷ []
 

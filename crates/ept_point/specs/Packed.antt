@@ -4,7 +4,7 @@ use Rattle.std.specs.List.{concat, flat_map, Any}
 use Rattle.ept_point.specs.declared.point.Point.{Point}
 use Rattle.ept_point.specs.Dimensions.{Kind, Signed, Unsigned, Float, Dimension, dimensions, pieces, word, X, Y, Z, Intensity, ReturnNumber, NumberOfReturns, ScanDirectionFlag, EdgeOfFlightLine, Classification, ClassFlags, ScanChannel, ScanAngleRank, ScanAngle, UserData, PointSourceId, GpsTime, Red, Green, Blue, OriginId, PointId, OldPointId}
 
--- a number in so many bytes, the lowest byte first
+-- a number in `width` bytes, the lowest byte first
 unfoldable pub little_endian : ℕ → ℕ → List ℕ
 little_endian width n = bytes_low_first 0 width n
 
@@ -20,7 +20,7 @@ bytes_of dimension (Whole z) = little_endian dimension.width (cast_unsigned (wor
 bytes_of dimension (Natural n) = little_endian dimension.width n
 bytes_of dimension (Bytes bytes) = bytes
 
--- what a point has of each dimension but the last
+-- what a point has of each dimension except the last
 abbrev pub front_fields : Point → List (Dimension × Value)
 front_fields p =
     (X, Whole p.x)

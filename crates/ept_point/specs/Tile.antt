@@ -21,11 +21,11 @@ pub record HasFaultAt (layout : Layout) (bytes : List ℕ) (at : ℕ) (IsFaulty 
   pub piece_length : length piece ≡ width_of layout
   pub is_faulty : IsFaulty before piece
 
--- the piece behind these points is that of a point whose id does not come after theirs
+-- the piece after these points is a point whose id does not come after theirs
 abbrev pub IsOutOfOrder : Layout → List Point → List ℕ → Type 0
 IsOutOfOrder layout before piece = (p : Point) × IsPackedIn layout piece p × ¬ IsAscending (before ++ p ∷ [])
 
--- Bytes read as the points of a tile, or as the first fault. They never read as want of memory.
+-- Bytes read as the points of a tile, or as the first fault. They never read as running out of memory.
 abbrev pub ReadsIn : Layout → List ℕ → Result (List Point) TileError → Type 0
 ReadsIn layout bytes (Ok points) = IsTileIn layout bytes points × IsAscending points
 ReadsIn layout bytes (Err Length) = length bytes % width_of layout ≢ 0
@@ -33,13 +33,13 @@ ReadsIn layout bytes (Err (Field at)) = HasFaultAt layout bytes at (λ before pi
 ReadsIn layout bytes (Err (Order at)) = HasFaultAt layout bytes at (IsOutOfOrder layout)
 ReadsIn layout bytes (Err Memory) = ⊥
 
--- What a call answered, that found this reading and appends the points, unless memory ran out.
+-- What a call returns that finds this reading. It appends the points, unless memory runs out.
 abbrev pub AppendsReading : Result (Unit {0}) TileError → List Point → List Point → Result (List Point) TileError → Type 0
 AppendsReading (Ok done) old new reading = (points : List Point) × (reading ≡ Ok points) × (new ≡ old ++ points)
 AppendsReading (Err Memory) old new reading = new ≡ old
 AppendsReading (Err fault) old new reading = (reading ≡ Err fault) × (new ≡ old)
 
--- what is wrong with the bytes of a point at this place, behind the point whose id is last
+-- what is wrong with the bytes of a point at this place, after the point whose id is `last`
 abbrev pub IsPointFault : Layout → List ℕ → Option PointId → ℕ → TileError → Type 0
 IsPointFault layout bytes last at Length = ⊥
 IsPointFault layout bytes last at (Field k) = (k ≡ at) × HasFieldAboveIn layout bytes

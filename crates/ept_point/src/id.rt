@@ -14,7 +14,7 @@ impl PointId {
     ghost use Rattle.std.specs.Prelude.{IsTrue, ◌↔◌};
     ghost use Rattle.ept_point.specs.Order.{IsBefore};
 
-    /// Whether this id is the less one: by the scan, then by the record.
+    /// Whether this id is the lesser one: by the scan, then by the record.
     pub fn is_before(self, other: PointId) -> bool
         ensures { IsTrue result ↔ IsBefore self other }
     {

@@ -7,8 +7,8 @@ ghost use Rattle.ept_point.specs.Laws.{EachPieceIsItsField, EachPieceReadsAsItsF
 
 use crate::packed::{OLD_LENGTH, PACKED_LENGTH};
 
-/// Who has the table of dimensions alone can read a packed point: each piece stands behind those of
-/// the dimensions before it, is as wide as its dimension, and reads as what the point has of it.
+/// A packed point can be read by the table of dimensions alone. Each piece comes after those of the dimensions before
+/// it. It is as wide as its dimension, and reads as what the point has of it.
 pub fn layout_law()
     ensures width { packed_width ≡ PACKED_LENGTH }
     ensures pieces { EachPieceIsItsField }
@@ -40,14 +40,14 @@ pub fn tile_once_law()
     ensures once { ReadInOneWay }
 {}
 
-/// The old form of a point is the packed form without the high half of the number, and of one point.
+/// The old form of a point is the packed form without the high half of the number, and is the form of one point only.
 pub fn old_layout_law()
     ensures width { old_width ≡ OLD_LENGTH }
     ensures zeros { OldFormLacksZeros }
     ensures once { EachLayoutIsOfOne }
 {}
 
-/// The order of ids is strict, and of two different ids one comes first.
+/// The order of ids is strict, and if two ids are different, one comes first.
 pub fn id_order_law()
     ensures irreflexive { NoneIsBeforeItself }
     ensures transitive { BeforeIsTransitive }

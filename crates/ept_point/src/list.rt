@@ -4,8 +4,7 @@ ghost use Rattle.std.specs.Prelude.{◌≡◌};
 
 use std::marker::Model;
 
-/// A list that owns its items. Contracts see the items in order, so two lists are equal exactly
-/// where their items are.
+/// A list that owns its items. Contracts see the items in order, so two lists are equal if and only if their items are.
 #[derive(Debug, Drop)]
 pub struct List<T> {
     items: Vec<T>,
@@ -34,7 +33,7 @@ impl<T> List<T> {
         self.items.as_slice()
     }
 
-    /// Gives the items back. It takes no memory.
+    /// Returns the items. It takes no memory.
     pub fn into_vec(self) -> Vec<T>
         ensures { result.items ≡ self }
     {

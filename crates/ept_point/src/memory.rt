@@ -1,9 +1,8 @@
-//! Want of memory.
+//! Running out of memory.
 
 use std::alloc::{AllocError, AllocFailed};
 
-/// Memory ran out. It is what a call answers that can fail in no other way; an enum of errors has a
-/// variant of this name.
+/// Memory ran out. A call returns it that can fail in no other way; an enum of errors has a variant of this name.
 #[derive(Clone, Copy, Debug, PartialEq, Eq)]
 pub struct Memory;
 

@@ -35,7 +35,7 @@ fn u8_at(bytes: &[u8], at: usize) -> u8
     bytes[at]
 }
 
-// The byte at a place, or `None` where it is above its greatest value.
+// The byte at a place, or `None` if it is above its greatest value.
 fn bounded_at(bytes: &[u8], at: usize, greatest: u8) -> Option<u8>
     requires { at < length bytes.now }
     ensures value { IfSome result (λ n. little_endian 1 n ≡ take 1 (drop at bytes.now)) }
@@ -89,8 +89,8 @@ fn i32_at(bytes: &[u8], at: usize) -> i32
     u32_at(bytes, at).cast_signed()
 }
 
-/// The point that these bytes are the packed form of. `None` exactly where one of the six bounded
-/// fields has more than its greatest value. It takes no memory.
+/// The point that these bytes are the packed form of. `None` if and only if one of the six bounded fields is above its
+/// greatest value. It takes no memory.
 pub fn unpack(bytes: &[u8; PACKED_LENGTH]) -> Option<Point>
     ensures point { IfSome result (λ p. packed p ≡ bytes.now) }
     ensures none { IsNone result ↔ HasFieldAboveBound bytes.now }
@@ -121,7 +121,7 @@ pub fn unpack(bytes: &[u8; PACKED_LENGTH]) -> Option<Point>
     })
 }
 
-// Puts bytes in front of what is behind them.
+// Writes bytes over the start of `into`. What follows them stays.
 fn put_front(into: &mut [u8], bytes: &[u8])
     requires { length bytes.now ≤ length into.old }
     ensures { into.new ≡ bytes.now ++ drop (length bytes.now) into.old }
@@ -129,8 +129,8 @@ fn put_front(into: &mut [u8], bytes: &[u8])
     into[..bytes.len()].copy_from_slice(bytes);
 }
 
-/// The point that these bytes are the old packed form of. `None` exactly where one of the six bounded
-/// fields has more than its greatest value. It takes no memory.
+/// The point that these bytes are the old packed form of. `None` if and only if one of the six bounded fields is above
+/// its greatest value. It takes no memory.
 pub fn unpack_old(bytes: &[u8; OLD_LENGTH]) -> Option<Point>
     ensures point { IfSome result (λ p. old_packed p ≡ bytes.now) }
     ensures fits { IfSome result (FitsIn Old) }

@@ -39,7 +39,7 @@ pub struct Point {
     pub return_number: u8,
     /// How many returns the pulse had, at most `MAX_RETURNS`.
     pub number_of_returns: u8,
-    /// 1 where the mirror moved in the positive direction.
+    /// 1 if the mirror moved in the positive direction.
     pub scan_direction: u8,
     /// 1 at the edge of a flight line.
     pub edge: u8,

@@ -33,7 +33,7 @@ impl Text {
         self.text.as_str()
     }
 
-    /// Gives the string back. It takes no memory.
+    /// Returns the string. It takes no memory.
     pub fn into_string(self) -> String
         ensures { string_bytes result ≡ self }
     {

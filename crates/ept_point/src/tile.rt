@@ -19,7 +19,7 @@ use std::alloc::{AllocError, AllocFailed};
 /// Why bytes are no tile: the first cause in the order of the variants at the first faulty point.
 #[derive(Clone, Copy, Debug, PartialEq, Eq)]
 pub enum TileError {
-    /// The length is no multiple of a point's.
+    /// The length is not a multiple of a point's.
     Length,
     /// The point of this number in the tile, from 0, has a field above its greatest value.
     Field { at: u64 },
@@ -88,7 +88,7 @@ impl Layout {
     }
 }
 
-// The point in the packed form at the place `at` of a tile, behind the point whose id is `last`.
+// The point in the packed form at the place `at` of a tile, after the point whose id is `last`.
 fn next_point(
     layout: Layout,
     bytes: &[u8],
@@ -112,8 +112,8 @@ fn next_point(
     Ok(point)
 }
 
-// Reads whole points up to the first fault, and leaves behind an error what it has read. Room for all
-// of them is made once, before the first.
+// Reads whole points up to the first fault. After an error it leaves what it has read. Room for all of them is made
+// once, before the first.
 fn read_points(layout: Layout, bytes: &[u8], out: &mut Vec<Point>) -> Result<(), TileError>
     requires { length bytes.now % width_of layout ≡ 0 }
     ensures ok { OnOk result ((points : List Point) × ReadsIn layout bytes.now (Ok points) × (out.new.items ≡ out.old.items ++ points)) }
@@ -141,14 +141,13 @@ fn read_points(layout: Layout, bytes: &[u8], out: &mut Vec<Point>) -> Result<(),
 ///
 /// # Errors
 ///
-/// The reading of the bytes, if they are no tile, and `Memory` where memory runs out. `out` is then
-/// as it was.
+/// The reading of the bytes, if they are no tile, and `Memory` if memory runs out. `out` is then as it was.
 pub fn read_tile_in(layout: Layout, bytes: &[u8], out: &mut Vec<Point>) -> Result<(), TileError>
     ensures ok { OnOk result ((points : List Point) × ReadsIn layout bytes.now (Ok points) × (out.new.items ≡ out.old.items ++ points)) }
     ensures fault { IfErr result (λ e. e ≢ TileError.Memory → ReadsIn layout bytes.now (Err e)) }
     ensures unchanged { OnErr result (out.new.items ≡ out.old.items) }
 
-    // Bytes read in one way, so this says what comes exactly where, unless memory runs out.
+    // Bytes read in one way, so this determines the result, unless memory runs out.
     ensures exact { (reading : Result (List Point) TileError) → ReadsIn layout bytes.now reading
         → AppendsReading result out.old.items out.new.items reading }
 {
@@ -167,7 +166,7 @@ pub fn read_tile_in(layout: Layout, bytes: &[u8], out: &mut Vec<Point>) -> Resul
 ///
 /// # Errors
 ///
-/// As of [`read_tile_in`].
+/// As for [`read_tile_in`].
 pub fn read_tile(bytes: &[u8], out: &mut Vec<Point>) -> Result<(), TileError>
     ensures ok { OnOk result ((points : List Point) × ReadsIn New bytes.now (Ok points) × (out.new.items ≡ out.old.items ++ points)) }
     ensures fault { IfErr result (λ e. e ≢ TileError.Memory → ReadsIn New bytes.now (Err e)) }
@@ -182,7 +181,7 @@ pub fn read_tile(bytes: &[u8], out: &mut Vec<Point>) -> Result<(), TileError>
 ///
 /// # Errors
 ///
-/// As of [`read_tile_in`].
+/// As for [`read_tile_in`].
 pub fn read_old_tile(bytes: &[u8], out: &mut Vec<Point>) -> Result<(), TileError>
     ensures ok { OnOk result ((points : List Point) × ReadsIn Old bytes.now (Ok points) × (out.new.items ≡ out.old.items ++ points)) }
     ensures fault { IfErr result (λ e. e ≢ TileError.Memory → ReadsIn Old bytes.now (Err e)) }

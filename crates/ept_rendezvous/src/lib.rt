@@ -1,4 +1,4 @@
-//! A gate at which workers meet: it holds one in a node until another one is in another node.
+//! A gate at which workers meet: it holds a worker in a node until another worker is in another node.
 #![tactic(auto)]
 
 mod meeting;

@@ -23,7 +23,7 @@ struct Node {
     z: u32,
 }
 
-// Why the worker that was held went on.
+// Why the worker that was held continued.
 #[derive(Clone, Copy, Debug, PartialEq, Eq)]
 enum End {
     // Another worker was in another node.
@@ -32,8 +32,8 @@ enum End {
     Waited,
 }
 
-/// A gate that holds the first worker that enters a node below the root, until another worker enters another node or
-/// its turns are over. A turn is a look, and then leave for another thread to run.
+/// A gate that holds the first worker that enters a node below the root. It holds it until another worker enters
+/// another node or its turns are over. In a turn it checks once, and then yields to other threads.
 #[derive(Drop)]
 pub struct MeetGate {
     turns: u64,
@@ -44,7 +44,7 @@ pub struct MeetGate {
 impl MeetGate {
     ghost use Rattle.ept_rendezvous.specs.Meeting.{turns_of};
 
-    /// A gate that no worker has entered, and that holds one for at most so many turns.
+    /// A gate that no worker has entered, and that holds a worker for at most `turns` turns.
     pub fn new(turns: u64) -> MeetGate
         ensures { turns_of result ≡ turns }
     {
@@ -55,12 +55,12 @@ impl MeetGate {
         }
     }
 
-    /// Whether a worker was held, and another one entered another node before its turns were over.
+    /// Whether a worker was held, and another worker entered another node before its turns were over.
     pub fn met(&self) -> bool {
         self.end.get() == Some(&End::Met)
     }
 
-    // Returns as soon as another worker is in another node, and else when the turns are over.
+    // Returns as soon as another worker is in another node, and otherwise when the turns are over.
     fn hold(&self) {
         for _ in 0..self.turns {
             if self.end.get().is_some() {
@@ -71,7 +71,7 @@ impl MeetGate {
         let _ = self.end.try_set(End::Waited);
     }
 
-    // Whether a worker is or was held, and this is another one in another node.
+    // Whether a worker is or was held, and this is another worker in another node.
     fn is_meeting(&self, entry: &Entry) -> bool {
         self.held.get().is_some_and(|held| are_apart(held, entry))
     }

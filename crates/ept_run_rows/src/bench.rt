@@ -20,9 +20,9 @@ pub(crate) struct Faults {
     pub(crate) make: Option<u64>,
     pub(crate) spill: Option<u64>,
     pub(crate) write: Option<u64>,
-    /// Spill files give back no byte.
+    /// Spill files return no byte.
     pub(crate) forgets: bool,
-    /// The sink takes so many bytes at a time.
+    /// The sink takes this number of bytes at a time.
     pub(crate) most: usize,
 }
 
@@ -55,7 +55,7 @@ pub(crate) struct Left {
 pub(crate) struct Bench {
     pub(crate) alloc: Global,
     pub(crate) files: Vec<(String, Vec<u8>)>,
-    /// What a new store has beside the file `other`.
+    /// What a new store has besides the file `other`.
     pub(crate) base: Vec<(String, Vec<u8>)>,
     pub(crate) store: MemStore,
     pub(crate) kept: MemStore,
@@ -66,7 +66,7 @@ pub(crate) struct Bench {
 }
 
 impl Bench {
-    /// Without a file, and with stores that have none.
+    /// A bench without a file, and with stores that have none.
     pub(crate) fn new(alloc: Global) -> Bench {
         Bench {
             alloc,
@@ -170,7 +170,7 @@ fn empty_store(alloc: Global) -> MemStore {
     MemStore::new(alloc, Vec::new(alloc), Vec::new(alloc))
 }
 
-// The devices of one run but the store.
+// The devices of one run except the store.
 #[derive(Drop)]
 struct Devices {
     shelf: RowShelf,
@@ -235,7 +235,7 @@ pub(crate) fn file(
     ))
 }
 
-// The calls that fail: the one of this number, if any.
+// The calls that fail: the call of this number, if any.
 fn calls(alloc: Global, call: Option<u64>) -> Result<Vec<u64>, AllocError> {
     let mut numbers = Vec::new(alloc);
     if let Some(number) = call {

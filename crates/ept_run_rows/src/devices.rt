@@ -1,10 +1,10 @@
-//! A shelf whose files may be others when they are opened again, and a room that counts what its spill files keep.
+//! A shelf whose files may be other files when they are opened again, and a room that counts what its spill files keep.
 
 use ept_base::{Failed, GetError, PutError, Room, Shelf, SpillFile};
 use ept_mem::{MemRoom, MemShelf, MemSource, MemSpill};
 use std::alloc::Global;
 
-/// A shelf in memory. Where it changes, the file `NAME.later` stands for `NAME` from its second opening on.
+/// A shelf in memory. If it changes, the file `NAME.later` takes the place of `NAME` from its second opening on.
 #[derive(Drop)]
 pub(crate) struct RowShelf {
     alloc: Global,
@@ -57,7 +57,7 @@ impl Shelf for RowShelf {
     }
 }
 
-/// A spill file in memory that counts what it was asked to keep. Where it forgets, it gives back no byte.
+/// A spill file in memory that counts what it was asked to keep. If it forgets, it returns no byte.
 #[derive(Drop)]
 pub(crate) struct RowSpill {
     file: MemSpill,
@@ -88,7 +88,7 @@ impl SpillFile for RowSpill {
     }
 }
 
-/// A room for such files, which counts what those that it took back were asked to keep.
+/// A room for such files. It counts what the files that were returned to it were asked to keep.
 #[derive(Drop)]
 pub(crate) struct RowRoom {
     room: MemRoom,

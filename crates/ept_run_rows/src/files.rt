@@ -36,7 +36,7 @@ fn begin(bench: &mut Bench) -> Result<(), Miss> {
     renew(bench)
 }
 
-// Puts a file on the shelf, in place of one of its name.
+// Puts a file on the shelf, in place of a file of its name.
 fn put_file(bench: &mut Bench, name: &str, bytes: &[u8]) -> Result<(), Miss> {
     let one = file(bench.alloc, name, bytes)?;
     bench.files.retain(|it| it.0.as_str() != name);
@@ -68,7 +68,7 @@ fn scan(bench: &mut Bench, name: &str, places: &str) -> Result<(), Miss> {
     put_file(bench, name, &bytes)
 }
 
-// The header of a LAS 1.2 file of format 0 that states so many points.
+// The header of a LAS 1.2 file of format 0 that states `count` points.
 fn append_header(bytes: &mut Vec<u8>, count: u32) -> Result<(), Miss> {
     bytes.extend_from_slice(b"LASF")?;
     bytes.extend_from_slice(&[0; 20])?;
@@ -100,7 +100,7 @@ fn set_byte(bytes: &mut [u8], at: usize, byte: u8) -> Result<(), Miss> {
     Ok(())
 }
 
-// `zeros NAME LENGTH`: a file of so many bytes 0.
+// `zeros NAME LENGTH`: a file of LENGTH bytes 0.
 fn zeros(bench: &mut Bench, name: &str, length: usize) -> Result<(), Miss> {
     if length > LONGEST {
         return Err(Miss::Form);
@@ -109,7 +109,7 @@ fn zeros(bench: &mut Bench, name: &str, length: usize) -> Result<(), Miss> {
     put_file(bench, name, &bytes)
 }
 
-// `set NAME AT HEX`: these bytes in place of those at this place on.
+// `set NAME AT HEX`: writes these bytes over those of the file from the place AT on.
 fn set(bench: &mut Bench, name: &str, at: usize, digits: &str) -> Result<(), Miss> {
     let bytes = hex::decode(bench.alloc, digits)?;
     let file = bytes_of(bench, name)?;
@@ -119,20 +119,20 @@ fn set(bench: &mut Bench, name: &str, at: usize, digits: &str) -> Result<(), Mis
     Ok(())
 }
 
-// `add NAME HEX`: these bytes behind those of the file.
+// `add NAME HEX`: appends these bytes to the file.
 fn add(bench: &mut Bench, name: &str, digits: &str) -> Result<(), Miss> {
     let bytes = hex::decode(bench.alloc, digits)?;
     bytes_of(bench, name)?.extend_from_slice(&bytes)?;
     Ok(())
 }
 
-// `cut NAME LENGTH`: no more than so many bytes.
+// `cut NAME LENGTH`: cuts the file to at most LENGTH bytes.
 fn cut(bench: &mut Bench, name: &str, length: usize) -> Result<(), Miss> {
     bytes_of(bench, name)?.truncate(length);
     Ok(())
 }
 
-// `pad NAME LENGTH`: blanks behind the bytes of the file, up to this length.
+// `pad NAME LENGTH`: appends blanks to the file, up to this length.
 fn pad(bench: &mut Bench, name: &str, length: usize) -> Result<(), Miss> {
     if length > LONGEST {
         return Err(Miss::Form);
@@ -146,8 +146,8 @@ fn pad(bench: &mut Bench, name: &str, length: usize) -> Result<(), Miss> {
     Ok(())
 }
 
-// `generate COUNT`: four scans `0.las` to `3.las`, over which so many points are dealt out in turn, each at a place that
-// three steps of a generator of numbers give.
+// `generate COUNT`: four scans `0.las` to `3.las`, to which COUNT points are dealt out in turn. The place of each is
+// given by three steps of a generator of numbers.
 fn generate(bench: &mut Bench, count: u64) -> Result<(), Miss> {
     let count = u32::try_from(count).map_err(|_| Miss::Form)?;
     for (input, name) in (0u32..4).zip(["0.las", "1.las", "2.las", "3.las"]) {
@@ -157,7 +157,7 @@ fn generate(bench: &mut Bench, count: u64) -> Result<(), Miss> {
     Ok(())
 }
 
-// The scan of an input: each fourth of the points, from that of this number on.
+// The scan of an input: each fourth of the points, from the point of this number on.
 fn generated(alloc: Global, count: u32, input: u32) -> Result<Vec<u8>, Miss> {
     let mut bytes = Vec::new(alloc);
     append_header(

@@ -38,7 +38,7 @@ fn tell(out: &mut String, is_so: bool) -> Result<(), Miss> {
     Ok(())
 }
 
-// The text of a file of the store; empty where it has none.
+// The text of a file of the store; empty if there is no such file.
 fn text_of<'a>(store: &'a MemStore, name: &str) -> &'a str {
     str::from_utf8(store.file(name).unwrap_or(b"")).unwrap_or("")
 }
@@ -139,8 +139,8 @@ pub(crate) fn is_as_before(bench: &Bench) -> bool {
         == bench.before.file(name.as_str()))
 }
 
-/// How many points the current checkpoint of a store has, and which generation it is; no points and no generation
-/// where there is none.
+/// How many points the current checkpoint of a store has, and which generation it is; no points and no generation if
+/// there is none.
 pub(crate) fn current(alloc: Global, store: &mut MemStore) -> Result<(u64, u64), Miss> {
     let Ok(saved) = open(alloc, store) else {
         return Err(Miss::Form);

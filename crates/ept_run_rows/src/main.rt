@@ -1,5 +1,5 @@
-//! Rows of builds, parts, merges, queries, selections, checks and trials over devices in memory: each line of the input makes a file, lets a call fail,
-//! runs the words of a command line or looks at what a run left, and the program prints the answer.
+//! Rows of builds, parts, merges, queries, selections, checks and trials over devices in memory. A line of the input
+//! makes a file, lets a call fail, runs a command line or looks at what a run left. The program prints its result.
 #![tactic(auto)]
 
 mod bench;
@@ -24,7 +24,7 @@ fn main(rt: HostRuntime) -> io::Result<()> {
     answer_lines(&rt, &mut bench, &mut out)
 }
 
-// Prints the answer of each line.
+// Prints the result of each line.
 fn answer_lines<R: Input + Print + AllocGlobal + Threads + Wait + Sync>(
     rt: &R,
     bench: &mut Bench,
@@ -41,7 +41,7 @@ fn answer_lines<R: Input + Print + AllocGlobal + Threads + Wait + Sync>(
     Ok(())
 }
 
-// Writes the answer of a line, which is the line itself where it is a comment or empty.
+// Writes the result of a line, which is the line itself if it is a comment or empty.
 fn answer<R: Threads + Wait + Sync>(
     rt: &R,
     bench: &mut Bench,
@@ -82,7 +82,7 @@ fn answer<R: Threads + Wait + Sync>(
     }
 }
 
-// The answer of a line that changes something.
+// The result of a line that changes something.
 fn done(out: &mut String) -> Result<(), Miss> {
     out.push_str("ok")?;
     Ok(())

@@ -29,8 +29,8 @@ pub(crate) fn answer<R: Threads + Wait + Sync>(
     }
 }
 
-/// Writes the status of the last run, the text that it wrote, and whether the metadata are in the store; and where the
-/// file `other` is no more what it was, that it is lost.
+/// Writes the status of the last run, the text that it wrote, and whether the metadata are in the store. If the file
+/// `other` is no longer what it was, it also writes that this file is lost.
 pub(crate) fn append_end(bench: &Bench, out: &mut String) -> Result<(), Miss> {
     let text = str::from_utf8(&bench.left.written).unwrap_or("no text");
     let left = if bench.store.file("ept.json").is_some() {
@@ -84,14 +84,14 @@ fn ask<R: Threads + Wait + Sync>(
     append_bytes(out, &bench.left.written)
 }
 
-// How often a worker that is held looks for another one, at most.
+// How often a worker that is held checks for another worker, at most.
 const TURNS: u64 = 10_000_000;
 
-// How often it is tried, should the machine let no other worker run while one is held.
+// The number of attempts, in case the machine lets no other worker run while one is held.
 const TRIES: usize = 4;
 
-// `meet WORDS`: runs the words through a gate that holds a worker in a node until another one is in another node, and
-// tells how that ended once two workers met. The store has to be a new one.
+// `meet WORDS`: runs the words through a gate that holds a worker in a node until another worker is in another node.
+// Writes how that ended once two workers met. Each attempt begins with a new store.
 fn meet<R: Threads + Wait + Sync>(
     rt: &R,
     bench: &mut Bench,

@@ -22,8 +22,8 @@ pub(crate) fn answer(
     }
 }
 
-// `say`: the sentence of the last run; `say unread PATH` and `say absent PATH` where that file could not be read or does
-// not exist, and `say uncreated` where the folder of the build does not exist.
+// `say`: the sentence of the last run. `say unread PATH` and `say absent PATH` if that file could not be read or does
+// not exist, and `say uncreated` if the folder of the build does not exist.
 fn say(bench: &mut Bench, seen: &str, out: &mut String) -> Result<(), Miss> {
     let Some(failure) = &bench.left.failure else {
         return Ok(out.push_str("nothing")?);
@@ -41,7 +41,7 @@ fn say(bench: &mut Bench, seen: &str, out: &mut String) -> Result<(), Miss> {
     append_lines(out, sentence.as_str())
 }
 
-// What was found of the files of a run.
+// What was found when the files of a run were looked at.
 fn found_of(seen: &str) -> Result<Found<'_>, Miss> {
     let (how, path) = first_word(seen);
     match how {
@@ -75,7 +75,7 @@ fn append_lines(out: &mut String, text: &str) -> Result<(), Miss> {
     Ok(())
 }
 
-// `starve`: the last run failed since memory ran out.
+// `starve`: the last run counts as one that failed because memory ran out.
 fn starve(bench: &mut Bench, out: &mut String) -> Result<(), Miss> {
     bench.left.failure = Some(Failure::Refused(Refusal::Memory));
     out.push_str("ok")?;

@@ -1,5 +1,5 @@
-//! Lines that stop a build, a part or a merge at each call of a device in turn, or spoil a file that a build left, and run
-//! it again.
+//! Lines that run a build, a part or a merge again. Before that they stop it at each call of a device in turn, or spoil
+//! a file that a build left.
 
 use crate::bench::Bench;
 use crate::looks::{current, is_as_before, is_same, is_same_output};
@@ -17,7 +17,7 @@ const BUILD: &str = "build|a.json|out";
 // The words of a build of more inputs.
 const MORE: &str = "build|b.json|out";
 
-/// Writes whether builds that were stopped go on.
+/// Writes whether builds that were stopped resume.
 pub(crate) fn answer<R: Threads + Wait + Sync>(
     rt: &R,
     bench: &mut Bench,
@@ -48,9 +48,9 @@ pub(crate) fn answer<R: Threads + Wait + Sync>(
 // A checkpoint: how many points it has, and its generation.
 type Checkpoint = (u64, u64);
 
-// `stops FIRST LAST LINE`: stops a build after FIRST, .. calls of its store, fewer than LAST, and lets what was not yet
-// flushed be as it was, as it was put, absent or junk. Each time the build is run again: then it ends with this line,
-// and the files are those that are kept. Writes how often, and which checkpoints the stopped builds left.
+// `stops FIRST LAST LINE`: stops a build after FIRST, .. calls of its store, fewer than LAST. What was not yet flushed
+// is then as it was, as it was put, missing or junk. Each time the build is run again: then it ends with this line, and
+// the files are those that are kept. Writes how often, and which checkpoints the stopped builds left.
 fn stops<R: Threads + Wait + Sync>(
     rt: &R,
     bench: &mut Bench,
@@ -68,7 +68,7 @@ fn stops<R: Threads + Wait + Sync>(
     append_checkpoints(&mut seen, out)
 }
 
-// Whether what each kind of stop after so many calls leaves goes on.
+// Whether the build resumes from what each kind of stop after this number of calls leaves.
 fn all_go_on<R: Threads + Wait + Sync>(
     rt: &R,
     bench: &mut Bench,
@@ -112,10 +112,10 @@ fn append_checkpoints(seen: &mut Vec<Checkpoint>, out: &mut String) -> Result<()
     Ok(())
 }
 
-// `halts FIRST LAST WORDS LINE`: stops these words after FIRST, .. calls of the store, up to the first that are carried out
-// all the same, or to LAST, and lets what was not yet flushed be as it was, as it was put, absent or junk. Each time they
-// are run again, or the build if the folder has a checkpoint by then: that ends with this line, and the files are those
-// that are kept. Writes whether it was the build, some time.
+// `halts FIRST LAST WORDS LINE`: stops these words after FIRST, .. calls of the store. It ends with the first words
+// that are carried out all the same, or at LAST. What was not yet flushed is then as it was, as it was put, missing or
+// junk. Each time they are run again, or the build if the folder has a checkpoint by then. That ends with this line,
+// and the files are those that are kept. Writes whether it was ever the build.
 fn halts<R: Threads + Wait + Sync>(
     rt: &R,
     bench: &mut Bench,
@@ -146,7 +146,8 @@ fn halts<R: Threads + Wait + Sync>(
     Ok(())
 }
 
-// Runs the words over a new store that fails after so many calls, and then crashes. Whether they were carried out.
+// Runs the words over a new store that fails after this number of calls, and then crashes. Whether they were carried
+// out.
 fn is_halted<R: Threads + Wait + Sync>(
     rt: &R,
     bench: &mut Bench,
@@ -162,8 +163,8 @@ fn is_halted<R: Threads + Wait + Sync>(
     Ok(is_done)
 }
 
-// Runs the words again, or the build if they are refused for a checkpoint, which is noted: whether that ends with this
-// line, and the files are those that are kept.
+// Runs the words again, or the build if they are refused because of a checkpoint, which is noted. Returns whether that
+// ends with this line, and the files are those that are kept.
 fn comes_again<R: Threads + Wait + Sync>(
     rt: &R,
     bench: &mut Bench,
@@ -179,10 +180,10 @@ fn comes_again<R: Threads + Wait + Sync>(
     Ok(bench.left.status == 0 && written(bench) == line && is_same(bench))
 }
 
-// `fails DEVICE FIRST LAST LINE`: lets the calls FIRST, .. of a device fail in a build, one in each build, up to the first
-// build that is done all the same, or to LAST. Each build that is refused ends with status 7 and says which device it is.
-// Then comes a crash that leaves what was put. The build that is run again over that, with sound devices, ends with this
-// line, and the files are those that are kept.
+// `fails DEVICE FIRST LAST LINE`: lets the calls FIRST, .. of a device fail in a build, one in each build. It ends with
+// the first build that is done all the same, or at LAST. Each build that is refused ends with status 7 and says which
+// device it is. Then comes a crash that leaves what was put. The build is run again over that, with sound devices. It
+// ends with this line, and the files are those that are kept.
 fn fails<R: Threads + Wait + Sync>(
     rt: &R,
     bench: &mut Bench,
@@ -208,7 +209,7 @@ fn fails<R: Threads + Wait + Sync>(
     Ok(())
 }
 
-// Builds into a new store over devices of which one's call of this number fails. They are sound again after it.
+// Builds into a new store over devices, one of which fails at its call of this number. They are sound again after it.
 fn is_done<R: Threads + Wait + Sync>(
     rt: &R,
     bench: &mut Bench,
@@ -224,7 +225,7 @@ fn is_done<R: Threads + Wait + Sync>(
     Ok(bench.left.status == 0)
 }
 
-// Whether the last run says that this device failed; of a sink, that it wrote no more than the beginning of this line.
+// Whether the last run says that this device failed. A sink says it if only the beginning of this line was written.
 fn is_said(bench: &Bench, device: &str, line: &str) -> bool {
     let written = written(bench);
     let is_right = match device {
@@ -237,7 +238,8 @@ fn is_said(bench: &Bench, device: &str, line: &str) -> bool {
 }
 
 // `spoils HOW NAME`: builds into a new store, spoils a file of it, and builds more inputs. Writes how that ended, and
-// whether the files are right: the output is the one that is kept where it is done, and else each file is as it was.
+// whether the files are right. If the build is done, the output is the one that is kept. Otherwise each file is as it
+// was.
 fn spoils<R: Threads + Wait + Sync>(
     rt: &R,
     bench: &mut Bench,

@@ -34,7 +34,7 @@ pub(crate) fn change(bench: &mut Bench, call: &str, rest: &str) -> Result<(), Mi
 }
 
 // `fail DEVICE CALL`: the call of this number of a device fails, in each run from now on; `fail store CALL` begins with
-// a new store. `fail nothing`: none fails.
+// a new store. `fail nothing`: no call fails.
 fn fail(bench: &mut Bench, device: &str, call: &str) -> Result<(), Miss> {
     if device == "nothing" {
         bench.faults = Faults::NONE;
@@ -43,7 +43,7 @@ fn fail(bench: &mut Bench, device: &str, call: &str) -> Result<(), Miss> {
     fail_at(bench, device, number(call)?)
 }
 
-/// Lets the call of this number of a device fail, in each run from now on. A store begins as a new one.
+/// Lets the call of this number of a device fail, in each run from now on. If it is the store, begins with a new one.
 pub(crate) fn fail_at(bench: &mut Bench, device: &str, call: u64) -> Result<(), Miss> {
     let call = Some(call);
     match device {
@@ -106,7 +106,8 @@ fn swap(bench: &mut Bench, first: &str, second: &str) -> Result<(), Miss> {
     bench.store.put(second, &one).map_err(of_put)
 }
 
-// `replace NAME FROM|TO`: a text in a file of the store gives way to another one, where it stands first.
+// `replace NAME FROM|TO`: writes the second text in place of the first one in a file of the store, where it occurs
+// first.
 fn replace(bench: &mut Bench, name: &str, texts: &str) -> Result<(), Miss> {
     let (from, to) = texts.split_once('|').ok_or(Miss::Form)?;
     let bytes = content(bench, name)?;
@@ -146,7 +147,7 @@ fn of_put(error: PutError) -> Miss {
     }
 }
 
-/// `fuse CALLS`: the store passes so many calls, and fails each one after them.
+/// `fuse CALLS`: the store passes this number of calls, and fails each one after them.
 pub(crate) fn fuse(bench: &mut Bench, calls: u64) -> Result<(), Miss> {
     let fresh = bench.new_store(None)?;
     let store = bench.replace_store(fresh);
@@ -154,7 +155,7 @@ pub(crate) fn fuse(bench: &mut Bench, calls: u64) -> Result<(), Miss> {
     Ok(())
 }
 
-// `wear CALLS`: the store as it is passes so many calls more, and fails each one after them.
+// `wear CALLS`: the store as it is passes this number of further calls, and fails each one after them.
 fn wear(bench: &mut Bench, calls: u64) -> Result<(), Miss> {
     let fresh = bench.new_store(None)?;
     let store = bench.replace_store(fresh);
@@ -162,7 +163,8 @@ fn wear(bench: &mut Bench, calls: u64) -> Result<(), Miss> {
     Ok(())
 }
 
-/// `crash HOW`: what is left of the store, and of what was put since the last flush the old, the new, nothing or junk.
+/// `crash HOW`: what is left of the store. What was put since the last flush is as it was, as it was put, missing or
+/// junk.
 pub(crate) fn crash(bench: &mut Bench, how: Crash) -> Result<(), Miss> {
     let fresh = bench.new_store(None)?;
     let store = bench.replace_store(fresh);

@@ -3,12 +3,12 @@
 use hex::FromHexError;
 use std::alloc::{AllocError, AllocFailed};
 
-/// Why a line has no answer.
+/// Why a line has no result.
 #[derive(Clone, Copy, Debug, PartialEq, Eq)]
 pub(crate) enum Miss {
-    /// It is not of the form of its call.
+    /// It is malformed.
     Form,
-    /// Out of memory.
+    /// Memory ran out.
     Memory,
 }
 

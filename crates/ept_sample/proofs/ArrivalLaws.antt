@@ -24,7 +24,7 @@ same_number a b e = grind (arith, nat_tests)
 
 -- ---- who loses
 
--- one that is beaten loses
+-- a point that is beaten loses
 pub loses-beaten : (rules : Rules) (depth : ℕ) (given : List Point) (q p : Point) → IsMember q given → beats rules depth q p ≡ true → loses rules depth given p ≡ true
 unfolding loses
 loses-beaten rules depth given q p m e = any-member (λ r. beats rules depth r p) q given m e
@@ -33,23 +33,23 @@ pub beaten-loses : (rules : Rules) (depth : ℕ) (given : List Point) (p : Point
 unfolding loses
 beaten-loses rules depth given p lost = member-any (λ q. beats rules depth q p) given lost
 
--- a given point that does not lose, and beats p
+-- a given point that does not lose and beats p
 abbrev pub BestOver : Rules → ℕ → List Point → Point → Type 0
 BestOver rules depth given p =
     (q : Point) × IsMember q given × (beats rules depth q p ≡ true) × (loses rules depth given q ≡ false)
 
--- who loses is beaten by one that does not lose
+-- a point that loses is beaten by one that does not lose
 pub best : (rules : Rules) (depth : ℕ) (given : List Point) (p : Point) → loses rules depth given p ≡ true → BestOver rules depth given p
 unfolding loses
 best rules depth given p lost = winner_of (beats rules depth) (contest rules depth) given p lost
 
--- without some that lose, the same ones lose
+-- if some losers are left out, the same points lose
 pub loses-filter : (rules : Rules) (depth : ℕ) (keep : Point → Bool) (given : List Point) → ((q : Point) → IsMember q given → loses rules depth given q ≡ false → keep q ≡ true) → (p : Point) → loses rules depth (filter keep given) p ≡ loses rules depth given p
 unfolding loses
 loses-filter rules depth keep given winners p =
     is_beaten-filter (beats rules depth) (contest rules depth) keep given winners p
 
--- in any order the same ones lose
+-- in any order the same points lose
 pub loses-IsPermutation : (rules : Rules) (depth : ℕ) (xs ys : List Point) (p : Point) → IsPermutation xs ys → loses rules depth xs p ≡ loses rules depth ys p
 unfolding loses
 loses-IsPermutation rules depth xs ys p h = list_any-IsPermutation (λ q. beats rules depth q p) xs ys h
@@ -103,7 +103,7 @@ unfolding kept
 stays-IsMember rules depth was given p m e =
     IsMember-kept (λ q. not (leaves rules depth was given q)) p given (goes _ e) m
 
--- of the points that stay the same ones lose as of all
+-- among the points that stay, the same points lose as among all
 pub loses-kept : (rules : Rules) (depth : ℕ) (was : ℕ → Bool) (given : List Point) (p : Point) → loses rules depth (kept rules depth was given) p ≡ loses rules depth given p
 unfolding kept
 loses-kept rules depth was given p =
@@ -147,12 +147,12 @@ sent-open rules depth was given o = at (is_open rules depth was given o) refl
     at true e = filter_agree _ _ (λ p. one_octant (loses rules depth given p) (is_open rules depth was given) (octant rules depth p) o true e) given
     at false e = filter_agree _ _ (λ p. one_octant (loses rules depth given p) (is_open rules depth was given) (octant rules depth p) o false e) given ∙ none_pass given
 
--- where no octant was open, that is of an octant that overflows
+-- if no octant was open, the open octants are those that overflow
 pub sent-none_open : (rules : Rules) (depth : ℕ) (given : List Point) (o : ℕ) → sent rules depth none_open given o ≡ (if overflows rules depth given o then losers rules depth given o else [])
 unfolding is_open
 sent-none_open rules depth given o = sent-open rules depth none_open given o
 
--- an octant overflows above the greatest depth alone
+-- an octant overflows only above the greatest depth
 pub overflows-depth : (rules : Rules) (depth : ℕ) (given : List Point) (o : ℕ) → overflows rules depth given o ≡ true → depth < rules.cube.depth
 unfolding overflows
 overflows-depth rules depth given o e =

@@ -5,7 +5,7 @@ use Rattle.std.proofs.lemmas.Bool.{false≢true}
 use Rattle.ept_sample.specs.Members.{IsMember}
 use Rattle.ept_sample.proofs.Members.{IsMember-filter}
 
--- a strict order of all: nothing is before itself, it goes on
+-- a strict order: nothing is before itself, and it is transitive
 pub record IsOrder {X : Type 0} (before : X → X → Bool) : Type 0 where
   pub none_itself : (x : X) → before x x ≡ false
   pub goes_on : (x y z : X) → before x y ≡ true → before y z ≡ true → before x z ≡ true
@@ -28,20 +28,20 @@ pub IsRising-filter : {X : Type 0} (before : X → X → Bool) (test : X → Boo
 IsRising-filter before test [] up = tt
 IsRising-filter before test (x ∷ xs) up = rising_step before test x xs (test x) up.0 (IsRising-filter before test xs up.1)
 
--- two heads, each among the other's list, are one
+-- two heads, each a member of the other's list, are the same
 heads : {X : Type 0} (before : X → X → Bool) (o : IsOrder before) (x y : X) (xs ys : List X) → IsBeforeAll before x xs → IsBeforeAll before y ys → IsMember x (y ∷ ys) → IsMember y (x ∷ xs) → x ≡ y
 heads before o x y xs ys first second (inl e) n = sym e
 heads before o x y xs ys first second (inr m) (inl e) = e
 heads before o x y xs ys first second (inr m) (inr n) =
     absurd (false≢true (sym (o.none_itself x) ∙ o.goes_on x y x (first y n) (second x m)))
 
--- a member of a rising list behind its head is not the head
+-- a member of a rising list that comes after its head is not the head
 behind : {X : Type 0} (before : X → X → Bool) (o : IsOrder before) (x z : X) (xs ys : List X) → IsBeforeAll before x xs → IsMember z xs → IsMember z (x ∷ ys) → IsMember z ys
 behind before o x z xs ys first m (inl e) =
     absurd (false≢true (sym (o.none_itself x) ∙ subst (λ w. before x w ≡ true) (sym e) (first z m)))
 behind before o x z xs ys first m (inr n) = n
 
--- two rising lists with the same members are one
+-- two rising lists with the same members are the same
 pub same_rising : {X : Type 0} (before : X → X → Bool) (o : IsOrder before) (xs ys : List X) → IsRising before xs → IsRising before ys → ((z : X) → IsMember z xs → IsMember z ys) → ((z : X) → IsMember z ys → IsMember z xs) → xs ≡ ys
 same_rising before o [] [] up up' there back = refl
 same_rising before o [] (y ∷ ys) up up' there back = absurd (back y (inl refl))

@@ -19,7 +19,7 @@ or_assoc : (a b c : Bool) → ((a || b) || c) ≡ (a || (b || c))
 or_assoc true b c = refl
 or_assoc false b c = refl
 
--- two tests that imply each other are one
+-- two tests that imply each other are the same
 same_test : (b c : Bool) → (b ≡ true → c ≡ true) → (c ≡ true → b ≡ true) → b ≡ c
 same_test true true there back = refl
 same_test true false there back = absurd (false≢true (there refl))
@@ -33,7 +33,7 @@ list_any-append test (x ∷ xs) ys =
 
 -- ---- who loses among more points
 
--- who loses among some loses among those and more
+-- a point that loses among some points loses among those and more
 pub loses-append : (rules : Rules) (depth : ℕ) (xs ys : List Point) (p : Point) → loses rules depth (xs ++ ys) p ≡ (loses rules depth xs p || loses rules depth ys p)
 unfolding loses
 loses-append rules depth xs ys p = list_any-append (λ q. beats rules depth q p) xs ys
@@ -42,7 +42,7 @@ pub loses-more : (rules : Rules) (depth : ℕ) (xs ys : List Point) (p : Point) 
 loses-more rules depth xs ys p lost =
     loses-append rules depth xs ys p ∙ or_left (loses rules depth xs p) (loses rules depth ys p) lost
 
--- among those that stay and more, the same lose as among all
+-- among those that stay and more, the same points lose as among all
 pub loses-kept_append : (rules : Rules) (depth : ℕ) (was : ℕ → Bool) (xs ys : List Point) (p : Point) → loses rules depth (kept rules depth was xs ++ ys) p ≡ loses rules depth (xs ++ ys) p
 loses-kept_append rules depth was xs ys p =
     loses-append rules depth (kept rules depth was xs) ys p
@@ -139,7 +139,7 @@ leaves-twice rules depth was xs ys p =
     ap (λ (b : Bool). b && is_open rules depth (is_open rules depth was xs) (kept rules depth was xs ++ ys) (octant rules depth p)) (loses-kept_append rules depth was xs ys p)
     ∙ ap (λ (b : Bool). loses rules depth (xs ++ ys) p && b) (is_open-twice rules depth was xs ys (octant rules depth p))
 
--- who leaves among some leaves among those and more
+-- a point that leaves among some points leaves among those and more
 pub leaves-append : (rules : Rules) (depth : ℕ) (was : ℕ → Bool) (xs ys : List Point) (p : Point) → leaves rules depth was xs p ≡ true → leaves rules depth was (xs ++ ys) p ≡ true
 leaves-append rules depth was xs ys p e =
     leaves-from rules depth was (xs ++ ys) p (loses-more rules depth xs ys p (leaves-loses rules depth was xs p e)) (is_open-append rules depth was xs ys (octant rules depth p) (leaves-open rules depth was xs p e))

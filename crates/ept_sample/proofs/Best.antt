@@ -1,4 +1,4 @@
--- A relation that nothing has to itself and that goes on: who is beaten is beaten by one that is not.
+-- In an irreflexive and transitive relation, what is beaten is beaten by something that is not.
 use Rattle.std.proofs.Common.{◌≡◌, Bool, true, false, ◌||◌, inl, inr, List, [], ◌∷◌, refl, ap, sym, ◌∙◌, filter}
 use Rattle.std.specs.List.{list_any}
 use Rattle.std.proofs.lemmas.Bool.{false≢true}
@@ -6,7 +6,7 @@ use Rattle.ept_sample.specs.Members.{IsMember}
 use Rattle.ept_sample.proofs.Members.{member-any, any-member, IsMember-kept, IsMember-filter}
 use Rattle.ept_sample.proofs.Choices.{either, not_both, first_of_two}
 
--- a strict order in part
+-- a strict partial order
 pub record IsContest {X : Type 0} (beats : X → X → Bool) : Type 0 where
   pub none_itself : (x : X) → beats x x ≡ false
   pub goes_on : (x y z : X) → beats x y ≡ true → beats y z ≡ true → beats x z ≡ true
@@ -22,7 +22,7 @@ Winner {X} beats xs x = (y : X) × IsMember y xs × (beats y x ≡ true) × (is_
 beaten_rest : {X : Type 0} (beats : X → X → Bool) (y : X) (xs : List X) (x : X) → beats y x ≡ false → is_beaten beats xs x ≡ false → is_beaten beats (y ∷ xs) x ≡ false
 beaten_rest beats y xs x first rest = ap (λ b. b || is_beaten beats xs x) first ∙ rest
 
--- what one that beats y beats, y's own loss passes on
+-- if y beats x and is beaten, x is beaten
 passed_on : {X : Type 0} (beats : X → X → Bool) → IsContest beats → (xs : List X) (y x : X) → beats y x ≡ true → is_beaten beats xs y ≡ true → is_beaten beats xs x ≡ true
 passed_on beats o xs y x wins lost =
     let v = member-any (λ z. beats z y) xs lost in
@@ -32,7 +32,7 @@ unbeaten_head : {X : Type 0} (beats : X → X → Bool) → IsContest beats → 
 unbeaten_head beats o xs y x wins none =
     elim (either (is_beaten beats xs y)) [ inl lost ↦ absurd (not_both (is_beaten beats xs x) (passed_on beats o xs y x wins lost) none) | inr fine ↦ fine ]
 
--- one that the head beats, where what the head beats is not beaten by the rest
+-- the head beats x, if the rest does not beat something that the head beats
 by_head : {X : Type 0} (beats : X → X → Bool) → IsContest beats → (xs : List X) (y z x : X) → beats y z ≡ true → is_beaten beats xs z ≡ false → beats y x ≡ true → Winner beats (y ∷ xs) x
 by_head beats o xs y z x over none wins =
     (y, inl refl, wins, beaten_rest beats y xs y (o.none_itself y) (unbeaten_head beats o xs y z over none))
@@ -44,7 +44,7 @@ by_rest beats o xs y x w =
       | inr under ↦ (w.0, inr w.1, w.2, beaten_rest beats y xs w.0 under w.3)
     ]
 
--- who is beaten is beaten by a winner
+-- what is beaten is beaten by a winner
 pub winner_of : {X : Type 0} (beats : X → X → Bool) → IsContest beats → (xs : List X) (x : X) → is_beaten beats xs x ≡ true → Winner beats xs x
 winner_of beats o [] x lost = absurd (false≢true lost)
 winner_of beats o (y ∷ xs) x lost =
@@ -55,7 +55,7 @@ winner_of beats o (y ∷ xs) x lost =
           by_head beats o xs y x x wins outside wins
     ]
 
--- without some that lose, the same ones lose
+-- if some losers are left out, the same items lose
 pub is_beaten-filter : {X : Type 0} (beats : X → X → Bool) → IsContest beats → (keep : X → Bool) (xs : List X) → ((y : X) → IsMember y xs → is_beaten beats xs y ≡ false → keep y ≡ true) → (x : X) → is_beaten beats (filter keep xs) x ≡ is_beaten beats xs x
 is_beaten-filter beats o keep xs winners x =
     elim (either (is_beaten beats xs x)) [

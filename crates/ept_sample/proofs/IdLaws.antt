@@ -44,7 +44,7 @@ id_order = record {
   goes_on = λ p q r e f. before-trans p.origin p.number q.origin q.number r.origin r.number e f;
 }
 
--- of two points with different ids, one comes before the other
+-- if two points have different ids, one comes before the other
 pub comes_before-total : (p q : Point) → comes_before p q ≡ false → same_id p q ≡ false → comes_before q p ≡ true
 unfolding before
 comes_before-total p q e f = before-total p.origin p.number q.origin q.number e f
@@ -91,13 +91,13 @@ count_by-cons test q ps = sum_by-cons (λ x. cond (test x) 1 0) q ps
 pub count_by-append : (test : Point → Bool) (ps qs : List Point) → count_by test (ps ++ qs) ≡ count_by test ps + count_by test qs
 count_by-append test ps qs = sum_by-append (λ x. cond (test x) 1 0) ps qs
 
--- a member that passes is counted
+-- an item that passes is counted
 pub count_by-member : (test : Point → Bool) (q : Point) (ps : List Point) → IsMember q ps → test q ≡ true → 1 ≤ count_by test ps
 count_by-member test q [] m e = absurd m
 count_by-member test q (p ∷ ps) (inl is) e = omega (arith, count-yes test p ps (ap test is ∙ e))
 count_by-member test q (p ∷ ps) (inr m) e = omega (arith, count_by-cons test p ps, count_by-member test q ps m e)
 
--- the same of its count in any order
+-- the count is the same in any order
 pub count_by-IsPermutation : (test : Point → Bool) (ps qs : List Point) → IsPermutation ps qs → count_by test qs ≡ count_by test ps
 count_by-IsPermutation test ps qs h = sum_by-IsPermutation (λ x. cond (test x) 1 0) ps qs h
 
@@ -107,7 +107,7 @@ pub HasDistinctIds-tail : (p : Point) (ps : List Point) → HasDistinctIds (p �
 unfolding HasDistinctIds
 HasDistinctIds-tail p ps once q = omega (arith, once q, count_by-cons (same_id q) p ps)
 
--- the head's id is none of the others
+-- no later point has the head's id
 pub HasDistinctIds-head : (p : Point) (ps : List Point) → HasDistinctIds (p ∷ ps) → (q : Point) → IsMember q ps → same_id p q ≡ false
 unfolding HasDistinctIds
 HasDistinctIds-head p ps once q m =
@@ -132,7 +132,7 @@ pub HasDistinctIds-filter : (keep : Point → Bool) (ps : List Point) → HasDis
 unfolding HasDistinctIds
 HasDistinctIds-filter keep ps once p = omega (arith, once p, count_by-filter-le (same_id p) keep ps)
 
--- points of a list with distinct ids that have one id are one
+-- two points of a list with distinct ids that have the same id are the same
 pub same_member : (ps : List Point) → HasDistinctIds ps → (p q : Point) → IsMember p ps → IsMember q ps → same_id p q ≡ true → p ≡ q
 same_member [] once p q m n e = absurd m
 same_member (r ∷ ps) once p q (inl a) (inl b) e = sym a ∙ b
@@ -200,7 +200,7 @@ IsRising-in_id_order [] once = tt
 IsRising-in_id_order (p ∷ ps) once =
     IsRising-placed p (in_id_order ps) (λ q m. HasDistinctIds-head p ps once q (in_id_order-IsMember q ps m)) (IsRising-in_id_order ps (HasDistinctIds-tail p ps once))
 
--- lists with the same points, of distinct ids, are one in id order
+-- two lists of the same points, with distinct ids, are the same in id order
 pub in_id_order-members : (ps qs : List Point) → HasDistinctIds ps → HasDistinctIds qs → ((p : Point) → IsMember p ps → IsMember p qs) → ((p : Point) → IsMember p qs → IsMember p ps) → in_id_order ps ≡ in_id_order qs
 in_id_order-members ps qs once once' there back =
     same_rising comes_before id_order (in_id_order ps) (in_id_order qs) (IsRising-in_id_order ps once) (IsRising-in_id_order qs once') (λ p m. IsMember-in_id_order p qs (there p (in_id_order-IsMember p ps m))) (λ p m. IsMember-in_id_order p ps (back p (in_id_order-IsMember p qs m)))
@@ -209,7 +209,7 @@ pub in_id_order-IsPermutation : (ps qs : List Point) → HasDistinctIds ps → I
 in_id_order-IsPermutation ps qs once h =
     in_id_order-members ps qs once (HasDistinctIds-IsPermutation ps qs h once) (λ p m. IsMember-IsPermutation p ps qs h m) (λ p m. IsMember-IsPermutation p qs ps (IsPermutation-sym ps qs h) m)
 
--- and so are each other's points in another order
+-- and each is a permutation of the other
 pub IsPermutation-members : (ps qs : List Point) → HasDistinctIds ps → HasDistinctIds qs → ((p : Point) → IsMember p ps → IsMember p qs) → ((p : Point) → IsMember p qs → IsMember p ps) → IsPermutation ps qs
 IsPermutation-members ps qs once once' there back =
     IsPermutation-trans ps (in_id_order ps) qs (IsPermutation-in_id_order ps) (subst (λ (w : List Point). IsPermutation w qs) (sym (in_id_order-members ps qs once once' there back)) (IsPermutation-sym qs (in_id_order qs) (IsPermutation-in_id_order qs)))
@@ -259,7 +259,7 @@ IsAscending-IsRising (p ∷ q ∷ ps) up = (IsBefore-comes_before p q (up.0 q (i
 
 -- ---- sorted points
 
--- no point has a less id than the one in front of it
+-- no point has a lesser id than the one before it
 abbrev pub IsSortedById : List Point → Type 0
 IsSortedById ps = (k : ℕ) (d : Point) → 0 ≤ k → k + 1 < length ps → is_lt (ordering_then (nat_cmp (get_or ps (k + 1) d).origin (get_or ps k d).origin) (nat_cmp (get_or ps (k + 1) d).number (get_or ps k d).number)) ≡ false
 
@@ -315,7 +315,7 @@ IsRising-IsAscending (p ∷ q ∷ ps) up =
 pub HasDistinctIds-IsAscending : (ps : List Point) → IsAscending ps → HasDistinctIds ps
 HasDistinctIds-IsAscending ps up = HasDistinctIds-IsRising ps (IsRising-IsAscending ps up)
 
--- what the test of each two neighbours tells
+-- what the test of each two neighbours means
 
 pub tested : (told : Bool) (p q : Point) → (told ≡ true ↔ IsBefore (id p) (id q)) → told ≡ comes_before p q
 tested true p q is = sym (comes_before-IsBefore p q (is.0 refl))

@@ -20,7 +20,7 @@ four-self : (a b c d : ℕ) → four_cmp a b c d a b c d ≡ Equal
 unfolding four_cmp
 four-self a b c d = grind (arith, nat_tests)
 
--- what goes on in a first part, and else in the rest
+-- what is transitive in a first part, and otherwise in the rest
 then-trans : (a k w : ℕ) (first second both : Ordering) → (first ≡ Less → second ≡ Less → both ≡ Less) → ordering_then (nat_cmp a k) first ≡ Less → ordering_then (nat_cmp k w) second ≡ Less → ordering_then (nat_cmp a w) both ≡ Less
 then-trans a k w first second both rest e f = grind (arith, nat_tests)
 
@@ -51,7 +51,7 @@ pub key-trans : (a b c : VoxelKey) → key_cmp a b ≡ Less → key_cmp b c ≡ 
 unfolding four_cmp
 key-trans a b c e f = four-trans a.depth a.x a.y a.z b.depth b.x b.y b.z c.depth c.x c.y c.z e f
 
--- keys that compare equal are one
+-- keys that compare equal are the same
 pub key-equal : (a b : VoxelKey) → key_cmp a b ≡ Equal → a ≡ b
 unfolding four_cmp
 key-equal a b e =

@@ -28,7 +28,7 @@ use Rattle.ept_space.proofs.Family.{depth-parent}
 abbrev pub AreAmong : List Point → List Point → Type 0
 AreAmong xs ys = (p : Point) → IsMember p xs → IsMember p ys
 
--- points with distinct ids that are among others are no more than those
+-- points with distinct ids that are among others are at most as numerous
 pub length-among : (xs ys : List Point) → HasDistinctIds xs → AreAmong xs ys → length xs ≤ length ys
 length-among [] ys once among = omega arith
 length-among (x ∷ xs) ys once among =
@@ -60,7 +60,7 @@ overflows-among : (rules : Rules) (depth : ℕ) (xs ys : List Point) (o : ℕ) �
 overflows-among rules depth xs ys o once among over =
     overflow_from rules depth ys o (overflows-depth rules depth xs o over) (omega (arith, overflows-more rules depth xs o over, length-among (losers rules depth xs o) (losers rules depth ys o) (distinct_losers rules depth xs o once) (losers-among rules depth xs ys o among)))
 
--- who leaves among some leaves among more
+-- a point that leaves among some points leaves among more
 leaves-among : (rules : Rules) (depth : ℕ) (xs ys : List Point) (p : Point) → HasDistinctIds xs → AreAmong xs ys → leaves rules depth none_open xs p ≡ true → leaves rules depth none_open ys p ≡ true
 unfolding is_open
 leaves-among rules depth xs ys p once among e =
@@ -99,7 +99,7 @@ is_node-among rules ps qs key once among is =
 
 -- ---- how many nodes
 
--- a rising list whose items are among others is no longer than those
+-- a rising list whose items are among others is at most as long
 pub length-rising : {X : Type 0} (before : X → X → Bool) → IsOrder before → (xs ys : List X) → IsRising before xs → ((x : X) → IsMember x xs → IsMember x ys) → length xs ≤ length ys
 length-rising before o [] ys up among = omega arith
 length-rising {X} before o (x ∷ xs) ys up among =
@@ -111,7 +111,7 @@ length-rising {X} before o (x ∷ xs) ys up among =
     ] in
     omega (arith, length-rising before o xs (remove ys at.0) up.1 rest, length_permutation ys (x ∷ remove ys at.0) taken)
 
--- with more points there are no fewer nodes
+-- with more points there are at least the same number of nodes
 pub length-node_keys-among : (rules : Rules) (ps qs : List Point) → IsCube rules.cube → AllInCube rules.cube qs → HasDistinctIds ps → AreAmong ps qs → length (node_keys rules ps) ≤ length (node_keys rules qs)
 length-node_keys-among rules ps qs ok inside once among =
     length-rising key_before key_order (node_keys rules ps) (node_keys rules qs) (IsRising-node_keys rules ps) (λ k m. node_keys-IsMember rules qs k ok inside (is_node-among rules ps qs k once among (IsMember-node_keys rules ps k m)))

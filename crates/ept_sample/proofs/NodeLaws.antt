@@ -23,7 +23,7 @@ use Rattle.ept_sample.proofs.Choices.{either, not_both}
 
 -- ---- the keys of the nodes
 
--- the keys of a place down to a depth have that of each lesser depth
+-- among the keys of a place down to a depth is the key of each lesser depth
 pub IsMember-keys_down_to : (cube : OctreeCube) (at : Place) (d n : ℕ) → d ≤ n → IsMember (key_at cube d at) (keys_down_to cube n at)
 IsMember-keys_down_to cube at d zero h = inl (ap (λ (k : ℕ). key_at cube k at) (let e : 0 ≡ d = omega arith in e))
 IsMember-keys_down_to cube at d (suc n) h =
@@ -56,7 +56,7 @@ unfolding node_keys
 IsRising-node_keys rules points =
     IsRising-in_key_order (filter (is_node rules points) (candidate_keys rules.cube points))
 
--- rising keys that are the nodes are these
+-- rising keys that are those of the nodes are these
 pub node_keys-is : (rules : Rules) (points : List Point) (keys : List VoxelKey) → IsCube rules.cube → AllInCube rules.cube points → IsRising key_before keys → ((k : VoxelKey) → IsMember k keys → is_node rules points k ≡ true) → ((k : VoxelKey) → is_node rules points k ≡ true → IsMember k keys) → keys ≡ node_keys rules points
 node_keys-is rules points keys ok inside up there back =
     same_rising key_before key_order keys (node_keys rules points) up (IsRising-node_keys rules points) (λ k m. node_keys-IsMember rules points k ok inside (there k m)) (λ k m. back k (IsMember-node_keys rules points k m))

@@ -1,4 +1,4 @@
--- What is computed of points that arrive at a node, from a list of losers and a list of octants, is what they do to it.
+-- What is computed from a list of losers and a list of octants is what the points that arrive at a node do to it.
 use Rattle.std.proofs.Common.{◌≡◌, ◌∙◌, ℕ, ◌<◌, Bool, true, false, not, ◌&&◌, ◌||◌, ◌==◌, nat_lt, inl, inr, List, refl, sym, ap, filter, get_or, count_by}
 use Rattle.std.proofs.lemmas.List.Elements.{filter_agree}
 use Rattle.ept_point.specs.declared.point.Point.{Point}

@@ -16,7 +16,7 @@ use Rattle.ept_sample.specs.Rank.{Rank, rank_at, is_nearer, is_better, beats}
 use Rattle.ept_sample.proofs.Best.{IsContest}
 use Rattle.ept_sample.proofs.Choices.{either, and_left, and_right, and_both}
 
--- the three parts of a rank behind its group, in order
+-- the three parts of a rank after its group, in order
 lexicographic : ℕ → ℕ → ℕ → ℕ → ℕ → ℕ → Bool
 lexicographic a b c x y z = nat_lt a x || ((a == x) && (nat_lt b y || ((b == y) && nat_lt c z)))
 
@@ -57,7 +57,7 @@ unfolding lexicographic grouped
 is_better-trans a b c e f =
     grouped-trans a.group b.group c.group (is_nearer a b) (is_nearer b c) (is_nearer a c) (lex-trans a.distance a.origin a.number b.distance b.origin b.number c.distance c.origin c.number) e f
 
--- ranks of which neither is better are equal
+-- two ranks, neither of which is better, are equal
 pub is_better-total : (a b : Rank) → is_better a b ≡ false → is_better b a ≡ false → (a.group ≡ b.group) × (a.distance ≡ b.distance) × (a.origin ≡ b.origin) × (a.number ≡ b.number)
 unfolding lexicographic grouped
 is_better-total a b e f =
@@ -94,14 +94,14 @@ pub beats-from : (rules : Rules) (depth : ℕ) (q p : Point) → same_cell rules
 unfolding beats
 beats-from rules depth q p cell rank = and_both _ _ cell rank
 
--- what a point beats, each point that beats it beats too
+-- a point beats what the points that it beats beat
 pub beats-trans : (rules : Rules) (depth : ℕ) (r q p : Point) → beats rules depth r q ≡ true → beats rules depth q p ≡ true → beats rules depth r p ≡ true
 beats-trans rules depth r q p e f =
     beats-from rules depth r p
     (same_cell-trans rules.cube depth (place r) (place q) (place p) (beats-cell rules depth r q e) (beats-cell rules depth q p f))
     (is_better-trans (rank_at rules depth r) (rank_at rules depth q) (rank_at rules depth p) (beats-rank rules depth r q e) (beats-rank rules depth q p f))
 
--- of two points of one cell with different ids, one beats the other
+-- if two points of one cell have different ids, one beats the other
 pub beats-total : (rules : Rules) (depth : ℕ) (q p : Point) → same_cell rules.cube depth (place q) (place p) ≡ true → same_id q p ≡ false → (beats rules depth q p ≡ true) ⊎ (beats rules depth p q ≡ true)
 beats-total rules depth q p cell different =
     elim (either (is_better (rank_at rules depth q) (rank_at rules depth p))) [
@@ -115,7 +115,7 @@ beats-total rules depth q p cell different =
           ]
     ]
 
--- by a lower group, and by a less distance where there are no groups
+-- by a lower group, and by a lesser distance if there are no groups
 pub lower-beats : (rules : Rules) (depth : ℕ) (p q : Point) → same_cell rules.cube depth (place p) (place q) ≡ true → group_of rules p.class p.class_flags < group_of rules q.class q.class_flags → beats rules depth p q ≡ true
 lower-beats rules depth p q cell lower = beats-from rules depth p q cell (grind (arith, nat_tests))
 
@@ -134,7 +134,7 @@ nearest-beats rules depth p q none cell near =
 pub contest : (rules : Rules) (depth : ℕ) → IsContest (beats rules depth)
 contest rules depth = record { none_itself = beats-self rules depth; goes_on = beats-trans rules depth }
 
--- ---- what equal cells tell
+-- ---- what equal cells mean
 
 pub same_cells : (cube : OctreeCube) (depth : ℕ) (p q : Place) (r : Bool) (a b : List ℕ) → a ≡ cell_at cube depth p → b ≡ cell_at cube depth q → r ≡ pointwise eqb a b → r ≡ same_cell cube depth p q
 same_cells cube depth p q r a b is is' e =

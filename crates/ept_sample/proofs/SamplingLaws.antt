@@ -71,13 +71,13 @@ pub leaves-given : (rules : Rules) (points : List Point) (key : VoxelKey) (p : P
 leaves-given rules points key p m e =
     subst (λ (xs : List Point). IsMember p xs) (sym (given-child rules points key (octant rules key.depth p) (octant_at-below rules.cube key.depth (place p)))) (sent-IsMember rules key.depth none_open (given rules points key) p m e)
 
--- a point leaves above the greatest depth alone
+-- a point leaves only above the greatest depth
 pub leaves-depth : (rules : Rules) (depth : ℕ) (xs : List Point) (p : Point) → leaves rules depth none_open xs p ≡ true → depth < rules.cube.depth
 unfolding is_open
 leaves-depth rules depth xs p e =
     overflows-depth rules depth xs (octant rules depth p) (leaves-open rules depth none_open xs p e)
 
--- what is given to a key are some of the points
+-- what is given to a key is some of the points
 pub given-IsMember : (rules : Rules) (points : List Point) (key : VoxelKey) (p : Point) → IsMember p (given rules points key) → IsMember p points
 given-IsMember rules points key p m = go key.depth key refl m
   where
@@ -190,7 +190,7 @@ winner_stays : (rules : Rules) (points : List Point) (key : VoxelKey) (p : Point
 winner_stays rules points key p m wins =
     sampling-IsMember rules points key p m (not_true _ (stays-winner rules key.depth none_open (given rules points key) p wins))
 
--- where a point was given, a point stays
+-- if a node was given a point, a point stays there
 pub sampling-some : (rules : Rules) (points : List Point) (key : VoxelKey) (p : Point) → IsMember p (given rules points key) → (q : Point) × IsMember q (sampling rules points key)
 sampling-some rules points key p m =
     elim (either (loses rules key.depth (given rules points key) p)) [
@@ -309,7 +309,7 @@ is_node-IsPermutation rules ps qs key once h =
 
 -- ---- a test of places
 
--- what a test of the root's box tells of the cube
+-- what a test of the root's box says of the cube
 pub in_cube_test : (cube : OctreeCube) (at told : Place) (r : Bool) (B : Place → Type 0) → told ≡ at → (IsTrue r ↔ B told) → ((x : Place) → B x ↔ InBox cube root x) → IsTrue r ↔ InCube cube at
 in_cube_test cube at told r B is test box =
     (λ h. InCube-root cube at ((box at).0 (subst B is (test.0 h))), λ h. test.1 (subst B (sym is) ((box at).1 (InBox-root cube at h))))

@@ -44,7 +44,7 @@ too_many-overflows rules depth given losing o is =
 pub All-passed : (P : Point → Type 0) (test : Point → Bool) (given items xs : List Point) → xs ≡ items → items ≡ filter test given → All P given → All P xs
 All-passed P test given items xs e is all = let M : List Point → Type 0 = λ w. All P w in subst M (sym (e ∙ is)) (All-filter test P given all)
 
--- the same list, where the depth is told in two ways
+-- the same list, if the depth is given in two ways
 pub losing-at : (rules : Rules) (d depth : ℕ) (given items xs : List Point) → d ≡ depth → xs ≡ items → items ≡ filter (loses rules d given) given → xs ≡ filter (loses rules depth given) given
 losing-at rules d depth given items xs at e is =
     e ∙ (is ∙ ap (λ (n : ℕ). filter (loses rules n given) given) at)
@@ -54,7 +54,7 @@ pub sent-is : (rules : Rules) (depth : ℕ) (given losing items xs : List Point)
 sent-is rules depth given losing items xs o e is found =
     e ∙ (found ∙ (ap (λ (w : List Point). filter (λ p. octant rules depth p == o) w) is ∙ losers-steps rules depth given o))
 
--- ---- where what is sent lies
+-- ---- where the points that are sent lie
 
 -- the losers of an octant lie in the child's box
 pub losers-InBox : (rules : Rules) (key : VoxelKey) (given : List Point) (o : ℕ) → IsCube rules.cube → key.depth < rules.cube.depth → AllInBox rules.cube key given → AllInBox rules.cube (child key o) (losers rules key.depth given o)
@@ -150,12 +150,12 @@ pub walked-open : (rules : Rules) (key down : VoxelKey) (given sent : List Point
 walked-open rules key down given sent o start map new at over is before after =
     walked_child rules key given sent o start map new over is before (after ∙ ap (λ (k : VoxelKey). with_nodes map (nodes_below rules (rules.cube.depth - k.depth) k sent)) at)
 
--- one that does not
+-- an octant that does not overflow
 pub walked-closed : (rules : Rules) (key : VoxelKey) (given : List Point) (o : ℕ) (start map : List Node) → overflows rules key.depth given o ≡ false → map ≡ with_nodes start (nodes_of_octants (nodes_below rules (rules.cube.depth - key.depth - 1)) rules key given o) → map ≡ with_nodes start (nodes_of_octants (nodes_below rules (rules.cube.depth - key.depth - 1)) rules key given (o + 1))
 walked-closed rules key given o start map closed before =
     before ∙ ap (λ (w : List Node). with_nodes start w) (sym (octants-closed (nodes_below rules (rules.cube.depth - key.depth - 1)) rules key given o closed))
 
--- after the last
+-- after the last octant
 pub walked-all : (rules : Rules) (key : VoxelKey) (given points : List Point) (old start map : List Node) (o : ℕ) → key.depth ≤ rules.cube.depth → points ≡ kept rules key.depth none_open given → start ≡ insert_entry key_cmp old key points → o ≡ 8 → map ≡ with_nodes start (nodes_of_octants (nodes_below rules (rules.cube.depth - key.depth - 1)) rules key given o) → map ≡ with_nodes old (nodes_below rules (rules.cube.depth - key.depth) key given)
 walked-all rules key given points old start map o low is first end all =
     all
@@ -163,7 +163,7 @@ walked-all rules key given points old start map o low is first end all =
     ∙ (ap (λ (m : List Node). with_nodes m (nodes_of_octants (nodes_below rules (rules.cube.depth - key.depth - 1)) rules key given 8)) (first ∙ ap (λ (xs : List Point). insert_entry key_cmp old key xs) is)
     ∙ ap (λ (w : List Node). with_nodes old w) (sym (nodes_below-step rules key given low))))
 
--- ---- what is known where the walk goes down
+-- ---- what is known when the walk goes down
 
 pub opened-overflows : (rules : Rules) (depth : ℕ) (given losing : List Point) (o : ℕ) (opened : Bool) → losing ≡ filter (loses rules depth given) given → opened ≡ has_too_many rules depth losing o → opened ≡ true → overflows rules depth given o ≡ true
 opened-overflows rules depth given losing o opened is test open' =

@@ -183,7 +183,7 @@ walked_octant rules depths key xs o k small over m =
     let n = member-map (λ (e : Node). e.0) k (nodes_below rules depths (child key o) (losers rules key.depth xs o)) m in
     subst (λ (w : List Node). IsMember k (keys_of w)) (sym (nodes_below-suc rules depths key xs)) (inr (subst (λ (w : VoxelKey). IsMember w (keys_of (nodes_of_octants (nodes_below rules depths) rules key xs 8))) n.2 (IsMember-map (λ (e : Node). e.0) n.0 (nodes_of_octants (nodes_below rules depths) rules key xs 8) (octants-IsMember (nodes_below rules depths) rules key xs 8 n.0 o (small, over, n.1)))))
 
--- where it comes to a key of which an octant overflows, it comes to the octant's child
+-- if it comes to a key with an octant that overflows, it comes to the octant's child
 walk_on : (rules : Rules) (points : List Point) (depths : ℕ) (key k : VoxelKey) (o : ℕ) → rules.cube.depth ≤ key.depth + depths → o < 8 → overflows rules k.depth (given rules points k) o ≡ true → IsWalked k (nodes_below rules depths key (given rules points key)) → IsWalked (child k o) (nodes_below rules depths key (given rules points key))
 walk_on rules points zero key k o low small over m =
     elim (subst (λ (w : List Node). IsMember k (keys_of w)) (nodes_below-zero rules key (given rules points key)) m) [
@@ -277,7 +277,7 @@ pub root-InBox : (cube : OctreeCube) (points items xs : List Point) → xs ≡ i
 root-InBox cube points items xs e is inside =
     All-weaker (λ p. InCube cube (place p)) (λ p. InBox cube root (place p)) (λ p h. InBox-root cube (place p) h) xs (given-InCube cube points items xs e is inside)
 
--- the map, where the walk began with the points in id order and an empty map
+-- the map, if the walk began with the points in id order and an empty map
 pub walk-entries : (rules : Rules) (points items xs : List Point) (start new : List Node) (depths : ℕ) → IsCube rules.cube → AllInCube rules.cube points → start ≡ [] → depths ≡ rules.cube.depth → xs ≡ items → items ≡ in_id_order points → new ≡ with_nodes start (nodes_below rules depths root xs) → map tile_of new ≡ sampled rules points
 walk-entries rules points items xs start new depths ok inside none all e is filled =
     ap (λ (w : List Node). map tile_of w)

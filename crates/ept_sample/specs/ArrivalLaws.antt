@@ -1,4 +1,4 @@
--- What holds of points that arrive at a node. Each statement stands on the contract of a function of `laws`.
+-- What holds of points that arrive at a node. Each statement is a clause of a function of `laws`.
 use Rattle.std.specs.Prelude.{◌≡◌, ℕ, Bool, IsTrue, List, [], ◌++◌, if◌then◌else◌, Contains, IsPermutation}
 use Rattle.ept_point.specs.declared.point.Point.{Point}
 use Rattle.ept_space.specs.declared.cube.Rules.{Rules}
@@ -6,17 +6,17 @@ use Rattle.ept_sample.specs.Ids.{HasDistinctIds}
 use Rattle.ept_sample.specs.Rank.{beats}
 use Rattle.ept_sample.specs.Arrivals.{loses, losers, is_open, kept, sent, all_sent}
 
--- who loses is beaten by a given point that does not lose
+-- a point that loses is beaten by a given point that does not lose
 abbrev pub WinnersBeatLosers : Type 0
 WinnersBeatLosers =
     (rules : Rules) (depth : ℕ) (given : List Point) (p : Point) → IsTrue (loses rules depth given p) → (q : Point) × Contains given q × IsTrue (beats rules depth q p) × ¬ IsTrue (loses rules depth given q)
 
--- so among the points that stay the same ones lose as among all
+-- so among the points that stay the same points lose as among all
 abbrev pub SameOnesLose : Type 0
 SameOnesLose =
     (rules : Rules) (depth : ℕ) (was_open : ℕ → Bool) (given : List Point) (p : Point) → loses rules depth (kept rules depth was_open given) p ≡ loses rules depth given p
 
--- all losers of an open octant leave for its child, and none of a closed one
+-- all losers of an open octant leave for its child, and no losers of a closed one do
 abbrev pub OpenSendsItsLosers : Type 0
 OpenSendsItsLosers =
     (rules : Rules) (depth : ℕ) (was_open : ℕ → Bool) (given : List Point) (o : ℕ) → sent rules depth was_open given o ≡ (if is_open rules depth was_open given o then losers rules depth given o else [])

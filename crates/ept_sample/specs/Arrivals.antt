@@ -1,7 +1,7 @@
 -- What points do to the node that they are given to: which lose, which octants open, which points leave and which stay.
 --
--- `given` are the points that a node of a depth was given so far: those that it has, and those that arrive.
--- `was_open` says which of its octants were open before.
+-- `given` are the points that a node of a depth was given so far: those that it has, and those that arrive. `was_open`
+-- says which of its octants were open before.
 use Rattle.std.specs.Prelude.{ℕ, Bool, false, ◌&&◌, ◌||◌, not, ◌==◌, nat_lt, List, [], ◌∷◌, length, filter, count_by, slice_index_or}
 use Rattle.std.specs.List.{list_any, flat_map}
 use Rattle.ept_point.specs.declared.point.Point.{Point}

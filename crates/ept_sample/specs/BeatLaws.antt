@@ -1,4 +1,4 @@
--- The three laws of beating. Each statement stands on the contract of a function of `laws`.
+-- The laws of beating. Each statement is a clause of a function of `laws`.
 use Rattle.std.specs.Prelude.{ℕ, ◌<◌, IsTrue, ◌⊎◌}
 use Rattle.ept_point.specs.declared.point.Point.{Point}
 use Rattle.ept_space.specs.declared.cube.Rules.{Rules}
@@ -17,7 +17,7 @@ abbrev pub BeatingGoesOn : Type 0
 BeatingGoesOn =
     (rules : Rules) (depth : ℕ) (p q r : Point) → IsTrue (beats rules depth p q) → IsTrue (beats rules depth q r) → IsTrue (beats rules depth p r)
 
--- of two points of one cell with different ids, one beats the other
+-- if two points of one cell have different ids, one beats the other
 abbrev pub OneOfTwoBeats : Type 0
 OneOfTwoBeats =
     (rules : Rules) (depth : ℕ) (p q : Point) → IsTrue (same_cell rules.cube depth (place p) (place q)) → ¬ IsTrue (same_id p q) → IsTrue (beats rules depth p q) ⊎ IsTrue (beats rules depth q p)
@@ -27,7 +27,7 @@ abbrev pub BeatingIsInOneCell : Type 0
 BeatingIsInOneCell =
     (rules : Rules) (depth : ℕ) (p q : Point) → IsTrue (beats rules depth p q) → IsTrue (same_cell rules.cube depth (place p) (place q))
 
--- the nearest to the centre wins, where no class comes first and withheld points are as others
+-- the nearest to the centre wins, if no class comes first and withheld points are like others
 abbrev pub TheNearestBeats : Type 0
 TheNearestBeats =
     (rules : Rules) (depth : ℕ) (p q : Point) → HaveNoGroups rules → IsTrue (same_cell rules.cube depth (place p) (place q)) → distance_at rules.cube depth (place p) < distance_at rules.cube depth (place q) → IsTrue (beats rules depth p q)

@@ -1,4 +1,4 @@
--- What holds of the order by ids. Each statement stands on the contract of a function of `laws`.
+-- What holds of the order by ids. Each statement is a clause of a function of `laws`.
 use Rattle.std.specs.Prelude.{◌≡◌, ◌↔◌, IsTrue, List, IsPermutation}
 use Rattle.ept_point.specs.declared.point.Point.{Point}
 use Rattle.ept_point.specs.Order.{id, IsBefore, IsAscending}
@@ -13,7 +13,7 @@ TestsAreOfIds =
 abbrev pub OrderKeepsPoints : Type 0
 OrderKeepsPoints = (points : List Point) → IsPermutation points (in_id_order points)
 
--- their ids ascend, where no id stands twice
+-- their ids ascend, if no id occurs twice
 abbrev pub OrderAscends : Type 0
 OrderAscends = (points : List Point) → HasDistinctIds points → IsAscending (in_id_order points)
 

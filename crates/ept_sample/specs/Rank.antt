@@ -7,7 +7,8 @@ use Rattle.ept_space.specs.Group.{group_of}
 use Rattle.ept_sample.specs.Place.{place}
 use Rattle.ept_sample.specs.Ids.{is_first}
 
--- the rank of a point at a depth: its group, then how far it is from the centre of its cell, then its scan, then its number there
+-- the rank of a point at a depth. It is its group, then how far it is from the centre of its cell, then its scan, then
+-- its number there.
 pub record Rank : Type 0 where
   pub group : ℕ
   pub distance : ℕ
@@ -22,7 +23,7 @@ rank_at rules depth p = record {
   number = p.number;
 }
 
--- of two points of one group the first is the nearer one, or the two are as near and its id comes first
+-- if two points are of one group, the first is nearer, or they are equally near and its id comes first
 abbrev pub is_nearer : Rank → Rank → Bool
 is_nearer a b =
     nat_lt a.distance b.distance || ((a.distance == b.distance) && is_first a.origin a.number b.origin b.number)

@@ -6,8 +6,8 @@ use Rattle.ept_space.specs.VoxelKey.{VoxelKey, root, same_key, parent, octant_of
 use Rattle.ept_sample.specs.Ids.{in_id_order}
 use Rattle.ept_sample.specs.Arrivals.{none_open, kept, sent}
 
--- the points given to the node of a key of that depth: all of them to the root, in id order,
--- and to a child those that its parent sends to its octant
+-- the points given to the node of a key of that depth. The root is given all of them, in id order. A child is given
+-- those that its parent sends to its octant.
 unfoldable pub given_at : Rules → List Point → ℕ → VoxelKey → List Point
 given_at rules points zero key = if same_key key root then in_id_order points else []
 given_at rules points (suc depth) key =

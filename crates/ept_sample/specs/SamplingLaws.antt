@@ -1,4 +1,4 @@
--- What holds of each sampling. Each statement stands on the contract of a function of `laws`.
+-- What holds of each sampling. Each statement is a clause of a function of `laws`.
 use Rattle.std.specs.Prelude.{◌≡◌, ◌≢◌, ◌<◌, ◌≤◌, ◌↔◌, IsTrue, List, [], length, Contains, IsPermutation}
 use Rattle.std.specs.List.{flat_map}
 use Rattle.ept_point.specs.declared.point.Point.{Point}
@@ -45,7 +45,7 @@ abbrev pub ParentsAreNodes : Type 0
 ParentsAreNodes =
     (rules : Rules) (points : List Point) (key : VoxelKey) → IsTrue (is_node rules points key) → 0 < key.depth → IsTrue (is_node rules points (parent key))
 
--- no node but the root is without points
+-- no node except the root is without points
 abbrev pub NodesHavePoints : Type 0
 NodesHavePoints =
     (rules : Rules) (points : List Point) (key : VoxelKey) → IsTrue (is_node rules points key) → key ≢ root → sampling rules points key ≢ []
@@ -68,7 +68,7 @@ abbrev pub PointsAscend : Type 0
 PointsAscend =
     (rules : Rules) (points : List Point) (key : VoxelKey) → HasDistinctIds points → IsAscending (sampling rules points key)
 
--- with more points each node is a node, and there are no fewer
+-- with more points each node is still a node, and there are at least the same number
 abbrev pub MorePointsKeepNodes : Type 0
 MorePointsKeepNodes =
     (rules : Rules) (ps qs : List Point) (key : VoxelKey) → HasDistinctIds ps → ((p : Point) → Contains ps p → Contains qs p) → IsTrue (is_node rules ps key) → IsTrue (is_node rules qs key)

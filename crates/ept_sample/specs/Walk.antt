@@ -15,13 +15,13 @@ Node = VoxelKey × List Point
 abbrev pub node_of : Rules → VoxelKey → List Point → Node
 node_of rules key given = (key, kept rules key.depth none_open given)
 
--- the nodes below the first so many octants of a key: where an octant overflows, those of its child
+-- the nodes below the first octants of a key, up to a number: if an octant overflows, the nodes of its child
 unfoldable pub nodes_of_octants : (VoxelKey → List Point → List Node) → Rules → VoxelKey → List Point → ℕ → List Node
 nodes_of_octants below rules key given zero = []
 nodes_of_octants below rules key given (suc o) =
     nodes_of_octants below rules key given o ++ (if overflows rules key.depth given o then below (child key o) (losers rules key.depth given o) else [])
 
--- the nodes of a key that was given these points and of the keys below it, so many depths down
+-- the nodes of a key that was given these points, and of the keys below it, down to that number of depths
 unfoldable pub nodes_below : Rules → ℕ → VoxelKey → List Point → List Node
 nodes_below rules zero key given = node_of rules key given ∷ []
 nodes_below rules (suc depths) key given =

@@ -1,5 +1,5 @@
-//! What points do to the node that they are given to: which of them lose, which octants are open
-//! afterwards, which points stay and which go down.
+//! What points do to the node that they are given to: which of them lose and which octants are open afterwards. Then
+//! which points stay and which go down.
 
 ghost use Rattle.std.specs.Prelude.{◌≡◌, ◌≤◌, ◌<◌, ℕ, ◌==◌, ◌||◌, not, nat_lt, true, false, filter, count_by, length, IfOk, slice_index_or};
 ghost use Rattle.ept_space.specs.VoxelKey.{child};
@@ -27,7 +27,7 @@ pub fn loses(rules: &Rules, depth: u8, given: &[Point], point: &Point) -> bool
     given.iter().any(|other| beats(rules, depth, other, point))
 }
 
-/// The points given to a node of that depth that lose, in the order in which they stand.
+/// The points given to a node of that depth that lose, in the order of the given points.
 pub fn losing(
     alloc: Global,
     rules: &Rules,
@@ -47,7 +47,7 @@ pub fn losing(
     Ok(losers)
 }
 
-/// The points that lie in one octant of the key's box, in the order in which they stand.
+/// The points that lie in one octant of the key's box, in the order of the given points.
 pub fn in_octant(
     alloc: Global,
     rules: &Rules,
@@ -97,7 +97,7 @@ pub fn child_of(rules: &Rules, key: &Key, which: u8) -> Key
     child(key, which)
 }
 
-/// Whether so many losers of an octant are more than the threshold, and so go down.
+/// Whether `count` losers of an octant are more than the threshold, and so go down.
 pub fn is_too_many(rules: &Rules, count: usize) -> bool
     ensures more { result ≡ nat_lt rules.now.threshold count }
 {
@@ -113,8 +113,8 @@ fn opens(rules: &Rules, key: &Key, was_open: bool, losers: &[Point], which: u8) 
     was_open || is_too_many(rules, count_in_octant(rules, key, losers, which))
 }
 
-/// Which octants are open once points have arrived of which these lose: those that were open, and above
-/// the greatest depth those that have too many of the losers.
+/// Which octants are open once points have arrived of which these lose. Open octants stay open. Above the greatest
+/// depth, octants that have too many of the losers open.
 pub fn opening(rules: &Rules, key: &Key, was: &[bool; OCTANTS], losers: &[Point]) -> [bool; OCTANTS]
     requires inside { AllInBox rules.now.cube key.now losers.now }
     ensures opened { (o : ℕ) → o < 8 → slice_index_or result o false
@@ -153,8 +153,8 @@ pub fn leaves(
     opened[which as usize] && loses(rules, key.depth, given, point)
 }
 
-/// The given points that stay in the node, in the order in which they stand: all but those that leave
-/// it for the child of an open octant. At the greatest depth no octant is open.
+/// The given points that stay in the node, in the order in which they are given. All stay except those that leave it
+/// for the child of an open octant. At the greatest depth no octant is open.
 pub fn staying(
     alloc: Global,
     rules: &Rules,

@@ -25,8 +25,7 @@ pub fn beat_law()
     ensures lower_group { ALowerGroupBeats }
 {}
 
-/// Of the points given to a node, who loses is beaten by one that stays, the losers of open octants
-/// leave, and nobody is lost.
+/// A point that loses at a node is beaten by one that stays, the losers of open octants leave, and no point is lost.
 pub fn arrival_law()
     ensures winners { WinnersBeatLosers }
     ensures same_lose { SameOnesLose }

@@ -1,4 +1,4 @@
-//! Where points lie, and whether they lie in a cube.
+//! The places of points, and whether they lie in a cube.
 
 ghost use Rattle.std.specs.Prelude.{◌≡◌, ◌↔◌, IsTrue};
 ghost use Rattle.ept_space.specs.OctreeCube.{InCube};

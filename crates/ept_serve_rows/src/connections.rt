@@ -9,8 +9,8 @@ use ept_conn::{End, serve_link};
 use ept_mem::{MemLink, MemStore};
 use std::alloc::Global;
 
-/// `serve SIZE STORE LINK BYTES`: how the connection ends, and the bytes that it was sent. STORE and LINK list the calls
-/// that fail.
+/// `serve SIZE STORE LINK BYTES`: how the connection ends, and the bytes that it was sent. STORE and LINK list the
+/// calls that fail.
 pub(crate) fn serve(
     alloc: Global,
     folder: &Folder,

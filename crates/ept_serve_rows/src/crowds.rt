@@ -42,8 +42,8 @@ impl Future for OneTurn<'_> {
 
 /// `crowd ORDER LINK BYTES & BYTES ..`: how the connections of a crowd end, in the order of their ends, and the bytes
 /// that they were sent. The bytes come one at a time, each call of a link waits once, and a turn is one unit of work.
-/// LINK lists the calls of the second connection's link that fail. The connections of ORDER are turned round and round
-/// until they have ended, and then all of them.
+/// LINK lists the calls of the second connection's link that fail. The connections of ORDER have turns round and round
+/// until they have ended, and then all connections do.
 pub(crate) fn crowd<R: RandomSource + AllocGlobal>(
     rt: &R,
     folder: &Folder,
@@ -131,7 +131,7 @@ fn push_all(crowd: &mut MemCrowd, answer: &mut String) -> Result<(), RowError> {
     Ok(())
 }
 
-/// `turn NUMBER COUNT`: what came of a turn of this number in a crowd of so many connections, of which no byte comes; or
+/// `turn NUMBER COUNT`: what came of a turn of this number in a crowd of COUNT connections, of which no byte comes. Or
 /// which connection was not added, and why.
 pub(crate) fn one_turn<R: RandomSource + AllocGlobal>(
     rt: &R,

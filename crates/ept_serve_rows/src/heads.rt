@@ -1,4 +1,4 @@
-//! Heads of requests and of answers, and the words of queries.
+//! Heads of requests and of responses, and the words of queries.
 
 use crate::escaped::{push_escaped, unescape};
 use crate::row::{RowError, cut, number, plain};
@@ -16,7 +16,7 @@ pub(crate) fn head(alloc: Global, text: &str, answer: &mut String) -> Result<(),
     Ok(())
 }
 
-/// Writes what a request asks for, and `last` if the connection ends after the answer.
+/// Writes what a request asks for, and `last` if the connection ends after the response.
 pub(crate) fn push_asked(answer: &mut String, asked: &Asked, last: bool) -> Result<(), AllocError> {
     match asked {
         Asked::File(name) => push_file(answer, name.as_str())?,
@@ -109,8 +109,8 @@ pub(crate) fn depths(text: &str, answer: &mut String) -> Result<(), RowError> {
     Ok(())
 }
 
-/// `answer json LENGTH END`, `answer binary LENGTH END`, `answer query END` or `answer refuse STATUS END`, with `last` or
-/// `open` for END: the head that `response_head` writes.
+/// `answer json LENGTH END`, `answer binary LENGTH END`, `answer query END` or `answer refuse STATUS END`, with `last`
+/// or `open` for END: the head that `response_head` writes.
 pub(crate) fn answer_head(text: &str, answer: &mut String) -> Result<(), RowError> {
     let kind = kind_of(text)?;
     let mut into = [0; 256];
@@ -157,7 +157,7 @@ fn is_last(word: &str) -> Result<bool, RowError> {
     }
 }
 
-// The head of an answer, or None if no answer has the status.
+// The head of a response, or `None` if no response has the status.
 fn written<'a>(kind: &HeadKind, into: &'a mut [u8; 256]) -> Option<&'a [u8]> {
     let known = match kind {
         HeadKind::Refusal { status, .. } => matches!(

@@ -26,7 +26,7 @@ fn main(rt: HostRuntime) -> io::Result<()> {
     Ok(())
 }
 
-// Prints the answer to a row. Empty lines and comments are copied.
+// Prints the result of a row. Empty lines and comments are copied.
 fn print_answer<R: Print + Wait + RandomSource + AllocGlobal>(
     rt: &R,
     folder: &mut Folder,

@@ -129,7 +129,7 @@ fn count_polls<R: RandomSource + AllocGlobal>(
     }
 }
 
-// Polls until the connection ends, and returns the number of polls. None if a pending poll has not asked for the next
+// Polls until the connection ends, and returns the number of polls. `None` if a pending poll has not asked for the next
 // one.
 fn polls_to_end(task: &MockTask, conn: &mut PollConn<MemPollLink, MemStore>) -> Option<(u64, End)>
     requires { IsPollable conn.old.turns conn.old.session }

@@ -36,8 +36,8 @@ pub(crate) fn query_row(
     ask(alloc, &mut store, &question, &mut sink, answer)
 }
 
-/// `select BOX DEPTHS CLASSES TIME DIMS STORE SINK`: the number of points that pass or the refusal, and the bytes that were
-/// written.
+/// `select BOX DEPTHS CLASSES TIME DIMS STORE SINK`: the number of points that pass or the refusal, and the bytes that
+/// were written.
 pub(crate) fn select_row(
     alloc: Global,
     folder: &Folder,
@@ -63,7 +63,7 @@ fn sift_of(text: &str) -> Result<(Sift, &str), RowError> {
     Ok((sift.ok_or(RowError::Form)?, text))
 }
 
-/// `again BOX DEPTHS STORE`: the answers of one query that runs twice over the same store and the same sink.
+/// `again BOX DEPTHS STORE`: the results of one query that runs twice over the same store and the same sink.
 pub(crate) fn again(
     alloc: Global,
     folder: &Folder,

@@ -1,9 +1,9 @@
-//! Rows: their words, and why one has no answer.
+//! Rows: their words, and why one has no result.
 
 use ept_point::Memory;
 use std::alloc::{AllocError, AllocFailed, Global};
 
-/// Why a row has no answer.
+/// Why a row has no result.
 #[derive(Clone, Copy)]
 pub(crate) enum RowError {
     /// The line is not a row.
@@ -47,7 +47,7 @@ pub(crate) fn number(word: &str) -> Result<u64, RowError> {
     word.parse::<u64>().map_err(|_| RowError::Form)
 }
 
-/// The number of a word, of 32 bits.
+/// The number of a word, below 2^32.
 pub(crate) fn small(word: &str) -> Result<u32, RowError> {
     word.parse::<u32>().map_err(|_| RowError::Form)
 }

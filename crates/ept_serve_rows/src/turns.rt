@@ -22,8 +22,8 @@ pub(crate) fn pieces_of(alloc: Global, size: &str, text: &str) -> Result<Vec<Vec
     Ok(pieces)
 }
 
-/// `turns SIZE BYTES`: the turns of a connection that is fed piece by piece and asked for all its turns after each
-/// piece; and whether it takes more bytes after that.
+/// `turns SIZE BYTES`: the turns of a connection that is fed piece by piece. After each piece it is asked for all its
+/// turns. Then whether it takes more bytes after that.
 pub(crate) fn turns(alloc: Global, text: &str, answer: &mut String) -> Result<(), RowError> {
     let (size, text) = cut(text)?;
     let pieces = pieces_of(alloc, size, text)?;

@@ -15,7 +15,7 @@ use std::time::Clock;
 
 /// All connections were served.
 const OK: u8 = 0;
-/// The words are none that this program takes.
+/// The words are not words that this program takes.
 const USAGE: u8 = 2;
 /// Listening or accepting failed.
 const FAULT: u8 = 7;
@@ -40,12 +40,12 @@ fn main(rt: HostRuntime) -> ExitCode {
     ExitCode::from(status)
 }
 
-// The words behind the program's name.
+// The words after the program's name.
 fn given_words(rt: &HostRuntime) -> io::Result<Vec<String>> {
     Ok(env::args(rt)?.skip(1).collect(rt.alloc())?)
 }
 
-// Serves as the words say, and answers the status.
+// Serves as the words say, and returns the status.
 fn run<R>(rt: &R, host: &HostRuntime, words: &[String]) -> u8
 where
     R: Threads + Wait + Clock + Net + RandomSource + AllocGlobal,
@@ -117,13 +117,13 @@ fn gate_of(host: &HostRuntime, out: &str) -> Result<String, AllocError> {
     format!(in host.alloc(); "{folder}/ept-work/done-2")
 }
 
-// Says what failed, and answers the status.
+// Says what failed, and returns the status.
 fn fault(host: &HostRuntime, what: &str, address: &str, error: &io::Error) -> u8 {
     let _ = eprintln!(host; "ept_server: {what} {address}: {error}");
     status_of(error, FAULT)
 }
 
-// The status of an error: want of memory, or else this.
+// The status of an error: out of memory, or otherwise this.
 fn status_of(error: &io::Error, other: u8) -> u8 {
     if error.kind() == ErrorKind::OutOfMemory {
         MEMORY

@@ -10,7 +10,7 @@ use std::net::{Shutdown, SocketAddr, TcpListener, TcpStream};
 use std::test::Fail;
 use std::thread;
 
-// What comes over a connection, with what the responses begin, and with what they end.
+// What comes over a connection, how the responses begin, and how they end.
 type Row = (&'static [u8], &'static [u8], &'static [u8]);
 
 static ROWS: [Row; 12] = [
@@ -29,7 +29,7 @@ static ROWS: [Row; 12] = [
         b"HTTP/1.1 200 OK\r\nContent-Type: application/octet-stream\r\nConnection: close\r\n",
         b"\0\0\0",
     ),
-    // A query of two points, of one, and of none.
+    // Queries of two points, of one, and of none.
     (
         b"GET /query?box=0,0,0,7,7,7&depths=0,2 HTTP/1.1\r\nHost: a\r\n\r\n",
         b"HTTP/1.1 200 OK\r\nContent-Type: application/octet-stream\r\nTransfer-Encoding: chunked\r\n",
@@ -50,7 +50,7 @@ static ROWS: [Row; 12] = [
         b"HTTP/1.1 200 OK\r\nContent-Type: application/octet-stream\r\nTransfer-Encoding: chunked\r\n",
         b"\x03\0\0\0\r\n0\r\n\r\n",
     ),
-    // Requests that are refused. After a bad one nothing more is answered.
+    // Requests that are refused. After a bad one there is no further response.
     (
         b"HELLO\r\n\r\nGET /ept.json HTTP/1.1\r\nHost: a\r\n\r\n",
         b"HTTP/1.1 400 Bad Request\r\n",
@@ -125,8 +125,8 @@ fn is_alike(alloc: Global, row: Row, received: &[u8]) -> Result<bool, AllocError
     Ok(received == link.written() && received.starts_with(begin) && received.ends_with(end))
 }
 
-// Whether a server sends of each row what a connection in memory is sent. The row that is sent in turn with it is the
-// one that is as far from the end. Each connection is made, whatever came before it: the server waits for all of them.
+// Whether a server sends for each row what a connection in memory is sent. The row that is sent in turn with it has the
+// same distance from the end. Each connection is made, whatever came before it: the server waits for all of them.
 fn are_alike(rt: &HostRuntime, address: SocketAddr) -> io::Result<bool> {
     let alloc = rt.alloc();
     let mut alike = true;

@@ -76,7 +76,7 @@ static ROWS: [Row; 10] = [
 
 type Watched<'a> = WatchedLink<'a, RealLink<Peer<'a>>, Terminal>;
 
-// A link over which these bytes come, whose lines go to this terminal.
+// A link over which these bytes come, and whose lines go to this terminal.
 fn watched<'a>(
     alloc: Global,
     terminal: &'a Terminal,

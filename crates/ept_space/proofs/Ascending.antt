@@ -8,7 +8,7 @@ use Rattle.std.proofs.lemmas.List.{get_or-map, length-map}
 use Rattle.ept_space.specs.VoxelKey.{VoxelKey, key_cmp}
 use Rattle.ept_space.proofs.KeyOrder.{key_cmp_total, less-is_lt}
 
--- in an order that passes on, where neighbours are in order, so are elements at any distance
+-- in a transitive order, if neighbours are in order, so are elements at any distance
 chain : {X : Type 0} (R : X → X → Type 0) → ((a b c : X) → R a b → R b c → R a c) → (xs : List X) (i n : ℕ) (d : X) → AllAdjacentBelow R xs (length xs) → i + suc n < length xs → R (get_or xs i d) (get_or xs (i + suc n) d)
 chain R trans xs i zero d up inside = up i d (omega (arith, inside))
 chain R trans xs i (suc n) d up inside =
@@ -37,12 +37,12 @@ AllPairs-unmap R f xs up i j d before inside =
     let second : get_or (map f xs) j (f d) ≡ f (get_or xs j d) = get_or-map f xs j d (f d) inside in
     subst (λ y. R y (f (get_or xs j d))) first (subst (λ y. R (get_or (map f xs) i (f d)) y) second (up i j (f d) before in_map))
 
--- of a list whose keys ascend, each element stands before a later one
+-- in a list whose keys ascend, each element comes before a later one
 pub ascend-at : {X : Type 0} (key : X → VoxelKey) (xs : List X) (i j : ℕ) (d : X) → i < j → j < length xs → AllPairs (λ a b. key_cmp a b ≡ Less) (map key xs) → key_cmp (key (get_or xs i d)) (key (get_or xs j d)) ≡ Less
 ascend-at key xs i j d before inside up =
     AllPairs-unmap (λ a b. key_cmp a b ≡ Less) key xs up i j d before inside
 
--- what a test of neighbours by `<` tells: whether the keys ascend
+-- what a test of neighbours by `<` returns: whether the keys ascend
 pub ascend-tested : {X : Type 0} (key : X → VoxelKey) (xs : List X) (r : Bool) → IsAllAdjacentAnswer (λ x y b. b ≡ is_lt (key_cmp (key x) (key y))) xs r → IsTrue r ↔ AllPairs (λ a b. key_cmp a b ≡ Less) (map key xs)
 ascend-tested {X} key xs true up = (
   (λ h. AllPairs-map (λ a b. key_cmp a b ≡ Less) key xs (AllPairs-from_neighbours (λ (a b : X). key_cmp (key a) (key b) ≡ Less) (λ a b c. key_cmp_total.trans (key a) (key b) (key c)) xs (λ k d inside. less-is_lt _ (sym (up k d inside))))),

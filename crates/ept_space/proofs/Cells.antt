@@ -58,7 +58,7 @@ pub same_cell-from : (cube : OctreeCube) (depth : ℕ) (p q : Place) → IsSameC
 unfolding same_cell
 same_cell-from cube depth p q h = three-equal _ _ _ _ _ _ h.x h.y h.z
 
--- being in one cell is having one cell
+-- places that are in one cell have equal cells
 pub cell_at-same : (cube : OctreeCube) (depth : ℕ) (p q : Place) → same_cell cube depth p q ≡ true → cell_at cube depth p ≡ cell_at cube depth q
 unfolding cell_at
 cell_at-same cube depth p q h =

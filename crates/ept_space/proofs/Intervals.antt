@@ -24,7 +24,7 @@ interval-code corner at read index shift fits short is_read near =
     let side = side-code shift (omega arith) in
     between-code corner at (read * (1 * 2 ^ shift % 18446744073709551616)) (1 * 2 ^ shift % 18446744073709551616) (index * 2 ^ shift) (2 ^ shift) fits (ap (λ i. i * (1 * 2 ^ shift % 18446744073709551616)) is_read ∙ ap (λ s. index * s) side) side (pow_pos shift) near
 
--- two closed intervals meet where the greater of their least numbers is at most the lesser of their greatest
+-- two closed intervals meet if the greater of their least numbers is at most the lesser of their greatest
 pub overlap-code : (a_min a_max b_min b_max high low : ℤ) → FitsSigned w64 a_min → FitsSigned w64 a_max → FitsSigned w64 b_min → FitsSigned w64 b_max → FitsSigned w64 high → FitsSigned w64 low → high ≡ int_max (to_z w64 (of_z w64 a_min)) (to_z w64 (of_z w64 b_min)) → low ≡ int_min (to_z w64 (of_z w64 a_max)) (to_z w64 (of_z w64 b_max)) → IsTrue (int_le (to_z w64 (of_z w64 high)) (to_z w64 (of_z w64 low))) ↔ Overlap a_min a_max b_min b_max
 overlap-code a_min a_max b_min b_max high low fa fb fc fd fits_high fits_low is_high is_low = (
   (λ h. let order : high ≤ℤ low = grind (arith, ints) in
@@ -53,13 +53,13 @@ pub read-overlap : (test : Bool) (a b c d : ℤ) → FitsSigned w64 a → FitsSi
 read-overlap test a b c d fa fb fc fd h =
     simp to_z-of_z at h
 
--- a place is in a box where its coordinates are in its intervals
+-- a place is in a box if its coordinates are in the box's intervals
 pub contains-code : (area : Box3) (place : Place) (x y z : Bool) → IsTrue x ↔ IsBetween (coordinate area.min 0) (coordinate area.max 0) (coordinate place 0) → IsTrue y ↔ IsBetween (coordinate area.min 1) (coordinate area.max 1) (coordinate place 1) → IsTrue z ↔ IsBetween (coordinate area.min 2) (coordinate area.max 2) (coordinate place 2) → IsTrue (x && y && z) ↔ IsIn area place
 contains-code area place x y z in_x in_y in_z =
     let all = all-three x y z _ _ _ in_x in_y in_z in
     ((λ h. let t = all.0 h in record { x = t.0; y = t.1; z = t.2 }), (λ h. all.1 (h.x, h.y, h.z)))
 
--- two boxes meet where their intervals do
+-- two boxes meet if their intervals do
 pub meets-code : (a b : Box3) (x y z : Bool) → IsTrue x ↔ Overlap (coordinate a.min 0) (coordinate a.max 0) (coordinate b.min 0) (coordinate b.max 0) → IsTrue y ↔ Overlap (coordinate a.min 1) (coordinate a.max 1) (coordinate b.min 1) (coordinate b.max 1) → IsTrue z ↔ Overlap (coordinate a.min 2) (coordinate a.max 2) (coordinate b.min 2) (coordinate b.max 2) → IsTrue (x && y && z) ↔ Meet a b
 meets-code a b x y z on_x on_y on_z =
     let all = all-three x y z _ _ _ on_x on_y on_z in (
@@ -78,7 +78,7 @@ near-code index depth e shift small is_shift low short =
     let rows : (index + 1) * 2 ^ shift ≤ 2 ^ depth * 2 ^ shift = mul-le (index + 1) (2 ^ shift) (2 ^ depth) (2 ^ shift) (omega arith) (omega arith) in
     omega arith
 
--- what the intervals of the axes say of the box, where the code has seen the cube and the key
+-- what the intervals of the axes say of the box, if the code has seen the cube and the key
 pub read-interval : (least greatest corner : ℤ) (low side : ℕ) → FitsSigned w64 least → FitsSigned w64 greatest → FitsSigned w32 corner → ((at : ℤ) → IsBetween least greatest at ↔ IsFrom (to_z w64 (of_z w64 corner) +ℤ pos low) side at) → (at : ℤ) → IsBetween (to_z w64 (of_z w64 least)) (to_z w64 (of_z w64 greatest)) at ↔ IsFrom (corner +ℤ pos low) side at
 read-interval least greatest corner low side fits_least fits_greatest fits_corner h at =
     let both = h at in (

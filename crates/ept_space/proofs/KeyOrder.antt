@@ -28,7 +28,7 @@ pub before-child : (key : VoxelKey) (octant : ℕ) → IsBefore key (child key o
 unfolding child
 before-child key octant = inl (omega arith)
 
--- what `<` answers
+-- what `<` returns
 pub less-is_lt : (o : Ordering) → is_lt o ≡ true → o ≡ Less
 less-is_lt Less h = refl
 less-is_lt Equal h = cc

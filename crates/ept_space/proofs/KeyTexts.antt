@@ -1,4 +1,4 @@
--- The texts of keys: their parts, their length, and that no two keys have one.
+-- The texts of keys: their parts, their length, and that no two keys have the same text.
 use Rattle.std.proofs.Common.{◌≡◌, ◌≢◌, ℕ, zero, suc, ◌^◌, ◌<◌, ◌≤◌, List, [], ◌∷◌, ◌++◌, length, get_or, Option, Some, None, Result, Ok, Err, MatchOption, MatchResult, Bor, decimal, refl, sym, ap, subst, ◌∙◌, arith, append_assoc, lit<}
 use Rattle.std.specs.Str.{IsAscii, IsUtf8}
 use Rattle.std.specs.Result.{result_ok}
@@ -43,7 +43,7 @@ pub no_dash : (n : ℕ) → n < 2 ^ 32 → (i : ℕ) → i < length (decimal n) 
 no_dash n small i inside same =
     let digit = digit_at (decimal n) i (decimal_is_IsNumeral n (omega arith)).0.1 inside in omega (arith, digit.0)
 
--- a text is split behind its first number
+-- a text is split after its first number
 pub split-number : (n : ℕ) (rest text : List ℕ) (r : Option (Bor (List ℕ) × Bor (List ℕ))) → n < 2 ^ 32 → text ≡ decimal n ++ 45 ∷ rest → IsSplitOnceResult 45 text r → MatchOption r ⊥ (λ x. (x.0.now ≡ decimal n) × (x.1.now ≡ rest))
 split-number n rest text r small spelled h =
     split_after 45 text (decimal n) rest r h (lit< tt) spelled (no_dash n small)
@@ -69,9 +69,9 @@ pub unread : {E : Type 0} (text : List ℕ) (r : Result (Bor (List ℕ)) E) (P :
 unread text (Ok s) P Q h none = cc
 unread text (Err e) P Q h none = h.0
 
--- ---- one spelling a key
+-- ---- one spelling for a key
 
--- a list without a dash, in front of a dash, is found again
+-- a list without a dash, followed by a dash, is found again
 same-front : (xs ys s t : List ℕ) → ((i : ℕ) → i < length xs → get_or xs i 0 ≢ 45) → ((i : ℕ) → i < length ys → get_or ys i 0 ≢ 45) → xs ++ 45 ∷ s ≡ ys ++ 45 ∷ t → (xs ≡ ys) × (s ≡ t)
 same-front [] [] s t no_x no_y same = (refl, cc)
 same-front [] (y ∷ ys) s t no_x no_y same = absurd (no_y 0 (omega arith) cc)

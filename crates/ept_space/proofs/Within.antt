@@ -61,7 +61,7 @@ up-up n x y a b c ab bc nx xy =
     let split : c - a - (c - b) ≡ b - a = omega arith in
     index-coarser n (c - b) (c - a) (omega arith) ∙ ap (λ k. n / 2 ^ (c - b) / 2 ^ k) split ∙ ap (λ m. m / 2 ^ (b - a)) nx ∙ xy
 
--- no depth up, an index stays
+-- no depth up, an index stays the same
 up-none : (n a : ℕ) → n / 2 ^ (a - a) ≡ n
 up-none n a = let none : a - a ≡ 0 = omega arith in ap (λ k. n / 2 ^ k) none ∙ omega arith
 
@@ -87,7 +87,7 @@ is_within-trans a b c ab bc =
 pub depth-within : (top key : VoxelKey) → is_within top key ≡ true → top.depth ≤ key.depth
 depth-within top key h = (IsWithin-from top key h).deeper
 
--- of two keys that a key is within, the one less deep has the other within it
+-- if a key is within two keys, the less deep of the two has the deeper one within it
 pub is_within-chain : (a b key : VoxelKey) → is_within a key ≡ true → is_within b key ≡ true → a.depth ≤ b.depth → is_within a b ≡ true
 is_within-chain a b key ha hb h =
     let upper = IsWithin-from a key ha in
@@ -102,7 +102,7 @@ is_within-chain a b key ha hb h =
     between : (n x y a b c : ℕ) → a ≤ b → b ≤ c → n / 2 ^ (c - b) ≡ x → n / 2 ^ (c - a) ≡ y → x / 2 ^ (b - a) ≡ y
     between n x y a b c ab bc nx ny = sym (up-up n x (x / 2 ^ (b - a)) a b c ab bc nx refl) ∙ ny
 
--- within one key, there is one key of each depth
+-- a key is within one key of each depth only
 pub is_within-unique : (a b key : VoxelKey) → is_within a key ≡ true → is_within b key ≡ true → a.depth ≡ b.depth → a ≡ b
 is_within-unique a b key ha hb same =
     let upper = IsWithin-from a b (is_within-chain a b key ha hb (omega arith)) in
@@ -139,7 +139,7 @@ is_within-root key h =
     all_up n d small =
         let whole : d - 0 ≡ d = omega arith in ap (λ k. n / 2 ^ k) whole ∙ div-eq_of_lt small
 
--- a key within another of its depth is that one
+-- a key within another of its depth is the same key
 pub is_within-level : (top key : VoxelKey) → is_within top key ≡ true → key.depth ≤ top.depth → top ≡ key
 is_within-level top key h level =
     is_within-unique top key key h (is_within-self key) (let deeper = depth-within top key h in omega arith)
@@ -161,7 +161,7 @@ unfolding is_below
 is_below-from top key h deeper =
     both-from (nat_lt top.depth key.depth) (is_within top key) (grind (arith, nat_tests)) h
 
--- a key is below another exactly where its parent is within it
+-- a key is below another only if its parent is within it
 pub is_within-above : (top key : VoxelKey) → is_below top key ≡ true → is_within top (parent key) ≡ true
 is_within-above top key h =
     let deeper = is_below-deeper top key h in
@@ -176,7 +176,7 @@ is_below-parent top key h deep =
 
 -- ---- within, by parent steps
 
--- an ancestor is reached by that many parent steps
+-- an ancestor is reached by that number of parent steps
 pub parents-ancestor : (n : ℕ) (key : VoxelKey) → parents n key ≡ ancestor n key
 unfolding ancestor parent
 parents-ancestor zero key = same-parts _ _ (omega arith) (omega arith) (omega arith) (omega arith)
@@ -215,7 +215,7 @@ is_below-child key octant lower h =
     let low = depth-within (child key octant) lower h in
     is_below-from key lower (is_within-trans key (child key octant) lower (is_within-child key octant) h) (omega arith)
 
--- of one child alone
+-- within one child only
 pub is_within-one_child : (key lower : VoxelKey) (a b : ℕ) → a < 8 → b < 8 → is_within (child key a) lower ≡ true → is_within (child key b) lower ≡ true → a ≡ b
 is_within-one_child key lower a b small_a small_b in_a in_b =
     let level : (child key a).depth ≡ (child key b).depth = depth-child key a ∙ sym (depth-child key b) in

@@ -1,4 +1,4 @@
--- What holds of the boxes, octants and keys of places. Each statement stands on the contract of a function of `laws`.
+-- What holds of the boxes, octants and keys of places. Each statement is a clause of a function of `laws`.
 use Rattle.std.specs.Prelude.{◌≡◌, ℕ, ◌+◌, ◌<◌, ◌≤◌, ◌↔◌, IsTrue}
 use Rattle.ept_space.specs.Place.{Place}
 use Rattle.ept_space.specs.VoxelKey.{VoxelKey, IsKey, root, child, parent, octant_of, is_within, is_below}
@@ -20,7 +20,7 @@ PlaceHasOneKey =
 abbrev pub PlaceHasRoot : Type 0
 PlaceHasRoot = (cube : OctreeCube) (place : Place) → InCube cube place → key_at cube 0 place ≡ root
 
--- a depth more is the child of the octant that the place lies in
+-- the key one depth deeper is the child of the octant in which the place lies
 abbrev pub NextKeyIsChild : Type 0
 NextKeyIsChild =
     (cube : OctreeCube) (depth : ℕ) (place : Place) → IsCube cube → depth < cube.depth → key_at cube (depth + 1) place ≡ child (key_at cube depth place) (octant_at cube depth place)
@@ -41,12 +41,12 @@ abbrev pub KeysOfPlaceNest : Type 0
 KeysOfPlaceNest =
     (cube : OctreeCube) (upper lower : ℕ) (place : Place) → IsCube cube → upper ≤ lower → lower ≤ cube.depth → IsTrue (is_within (key_at cube upper place) (key_at cube lower place))
 
--- and whatever a key of the place is within is one of them
+-- and each key that a key of the place is within is one of them
 abbrev pub AboveIsKeyOfPlace : Type 0
 AboveIsKeyOfPlace =
     (cube : OctreeCube) (top : VoxelKey) (depth : ℕ) (place : Place) → IsCube cube → depth ≤ cube.depth → IsTrue (is_within top (key_at cube depth place)) → key_at cube top.depth place ≡ top
 
--- below one of them they are within its child of the octant that the place lies in
+-- below one of them, they are within its child of the octant in which the place lies
 abbrev pub BelowIsInItsOctant : Type 0
 BelowIsInItsOctant =
     (cube : OctreeCube) (top : VoxelKey) (depth : ℕ) (place : Place) → IsCube cube → depth ≤ cube.depth → IsTrue (is_below top (key_at cube depth place)) → IsTrue (is_within (child top (octant_at cube top.depth place)) (key_at cube depth place))
@@ -62,7 +62,7 @@ abbrev pub BoxIsInCube : Type 0
 BoxIsInCube =
     (cube : OctreeCube) (key : VoxelKey) (place : Place) → IsCube cube → IsKey key → key.depth ≤ cube.depth → InBox cube key place → InCube cube place
 
--- and in the box of each key that its own is within
+-- and in the box of each key that its own key is within
 abbrev pub BoxesNest : Type 0
 BoxesNest =
     (cube : OctreeCube) (top key : VoxelKey) (place : Place) → IsCube cube → key.depth ≤ cube.depth → IsTrue (is_within top key) → InBox cube key place → InBox cube top place
@@ -77,7 +77,7 @@ abbrev pub PlaceHasChild : Type 0
 PlaceHasChild =
     (cube : OctreeCube) (key : VoxelKey) (place : Place) → IsCube cube → key.depth < cube.depth → InBox cube key place → InBox cube (child key (octant_at cube key.depth place)) place
 
--- and in no other
+-- and in no other child's box
 abbrev pub PlaceHasOneChild : Type 0
 PlaceHasOneChild =
     (cube : OctreeCube) (key : VoxelKey) (octant : ℕ) (place : Place) → octant < 8 → InBox cube (child key octant) place → octant_at cube key.depth place ≡ octant

@@ -1,4 +1,4 @@
--- What holds of the cells of places. Each statement stands on the contract of a function of `laws`.
+-- What holds of the cells of places. Each statement is a clause of a function of `laws`.
 use Rattle.std.specs.Prelude.{◌≡◌, ℕ, ◌^◌, ◌<◌, ◌≤◌, ◌↔◌, [], ◌∷◌, IsTrue}
 use Rattle.ept_space.specs.Place.{Place}
 use Rattle.ept_space.specs.OctreeCube.{OctreeCube, IsCube, InCube, InCell, key_at, octant_at, cell_at, same_cell, distance_at}
@@ -8,12 +8,12 @@ abbrev pub PlaceHasCell : Type 0
 PlaceHasCell =
     (cube : OctreeCube) (depth : ℕ) (place : Place) → InCube cube place → InCell cube depth (cell_at cube depth place) place
 
--- and in no other of that depth
+-- and in no other cell of that depth
 abbrev pub PlaceHasOneCell : Type 0
 PlaceHasOneCell =
     (cube : OctreeCube) (depth : ℕ) (x y z : ℕ) (place : Place) → InCell cube depth (x ∷ y ∷ z ∷ []) place → cell_at cube depth place ≡ x ∷ y ∷ z ∷ []
 
--- two places lie in one cell exactly where their cells are equal
+-- two places lie in one cell if and only if their cells are equal
 abbrev pub SameCellTells : Type 0
 SameCellTells =
     (cube : OctreeCube) (depth : ℕ) (p q : Place) → IsTrue (same_cell cube depth p q) ↔ (cell_at cube depth p ≡ cell_at cube depth q)

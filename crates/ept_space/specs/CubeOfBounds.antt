@@ -1,4 +1,4 @@
--- Bounds, and the cube that they, a span and a greatest depth give.
+-- Bounds, and the cube of bounds, a span and a greatest depth.
 use Rattle.std.specs.Prelude.{◌≡◌, ℕ, ◌-◌, ◌^◌, ◌<◌, ◌≤◌, ◌↔◌, min, max, pos, ◌-ℤ◌, ◌≤ℤ◌, ◌<ℤ◌, unsigned_abs}
 use Rattle.std.specs.Int.{w32, leading_zeros}
 use Rattle.ept_space.specs.declared.bounds.Bounds.{Bounds}
@@ -18,7 +18,7 @@ pub record HasPlace (bounds : Bounds) : Type 0 where
   pub y_ordered : coordinate bounds.min 1 ≤ℤ coordinate bounds.max 1
   pub z_ordered : coordinate bounds.min 2 ≤ℤ coordinate bounds.max 2
 
--- some bounds lie within others: on every axis from the minimum of the others to their maximum
+-- bounds lie within others: on every axis from the minimum of the others to their maximum
 pub record IsInside (outer inner : Bounds) : Type 0 where
   pub x_min : coordinate outer.min 0 ≤ℤ coordinate inner.min 0
   pub y_min : coordinate outer.min 1 ≤ℤ coordinate inner.min 1
@@ -40,8 +40,8 @@ pub record Covers (bounds : Bounds) (e : ℕ) : Type 0 where
   pub y_covered : (coordinate bounds.max 1 -ℤ coordinate bounds.min 1) <ℤ pos (2 ^ e)
   pub z_covered : (coordinate bounds.max 2 -ℤ coordinate bounds.min 2) <ℤ pos (2 ^ e)
 
--- the corner is the bounds' minimum, e is the least number that is at least s and whose side covers the bounds,
--- and the depth is the lesser of the greatest depth and e - s
+-- the corner is the bounds' minimum. e is the least number that is at least s and whose side covers the bounds. The
+-- depth is the lesser of the greatest depth and e - s.
 pub record IsCubeOf (bounds : Bounds) (s max_depth : ℕ) (cube : OctreeCube) : Type 0 where
   pub at_minimum : cube.corner ≡ bounds.min
   pub span : cube.s ≡ s
@@ -54,7 +54,7 @@ pub record IsCubeOf (bounds : Bounds) (s max_depth : ℕ) (cube : OctreeCube) : 
 abbrev pub extent : Bounds → ℕ → ℕ
 extent bounds axis = unsigned_abs (coordinate bounds.max axis -ℤ coordinate bounds.min axis)
 
--- the longest of those
+-- the longest of these
 abbrev pub longest : Bounds → ℕ
 longest bounds = max (extent bounds 0) (max (extent bounds 1) (extent bounds 2))
 
@@ -62,15 +62,15 @@ longest bounds = max (extent bounds 0) (max (extent bounds 1) (extent bounds 2))
 abbrev pub bit_length : ℕ → ℕ
 bit_length n = 32 - leading_zeros w32 n
 
--- that cube, as a function
+-- the cube of bounds, as a function
 unfoldable pub cube_of : Bounds → ℕ → ℕ → OctreeCube
 cube_of bounds s max_depth =
     let e = max s (bit_length (longest bounds)) in
     record { corner = bounds.min; e = e; s = s; depth = min max_depth (e - s) }
 
--- ---- what holds of all bounds. Each statement stands on the contract of a function of `laws`
+-- ---- what holds of all bounds. Each statement is a clause of a function of `laws`
 
--- bounds that have a place lie within others exactly where the others have all their places
+-- bounds that have a place lie within others if and only if the others have all their places
 abbrev pub InsideByPlaces : Type 0
 InsideByPlaces =
     (outer inner : Bounds) → HasPlace inner → IsInside outer inner ↔ ((place : Place) → InBounds inner place → InBounds outer place)

@@ -14,12 +14,12 @@ is_withheld flags = bit_at flags 2 == 1
 abbrev pub comes_later : Rules → ℕ → Bool
 comes_later rules class = has_member rules.first && not (has_class rules.first class)
 
--- 2 for a withheld point where such points come last, and 1 more for a class that comes later than others
+-- 2 for a withheld point if such points come last, and 1 more for a class that comes later than others
 unfoldable pub group_of : Rules → ℕ → ℕ → ℕ
 group_of rules class flags =
     (if rules.withheld_last && is_withheld flags then 2 else 0) + (if comes_later rules class then 1 else 0)
 
--- no point comes before another but for its place
+-- no point comes before another except by its place
 abbrev pub HaveNoGroups : Rules → Type 0
 HaveNoGroups rules = (has_member rules.first ≡ false) × (rules.withheld_last ≡ false)
 

@@ -11,7 +11,8 @@ pub record OctreeCube : Type 0 where
   pub s : ℕ
   pub depth : ℕ
 
--- a span of 2 to 1024 cells, a side of 2 ^ s to 2 ^ 32, cells of at least one unit, and a corner of 32 bits a number
+-- the span is 2 to 1024 cells and the side 2 ^ s to 2 ^ 32. A cell has at least one unit. Each number of the corner has
+-- 32 bits.
 pub record IsCube (cube : OctreeCube) : Type 0 where
   pub span_low : 1 ≤ cube.s
   pub span_high : cube.s ≤ 10
@@ -27,7 +28,7 @@ pub record IsCube (cube : OctreeCube) : Type 0 where
 abbrev pub box_side : OctreeCube → ℕ → ℕ
 box_side cube depth = 2 ^ (cube.e - depth)
 
--- a coordinate lies in the half-open interval of that length from a least one on
+-- a coordinate lies in the half-open interval of that length that starts at the least one
 abbrev pub IsFrom : ℤ → ℕ → ℤ → Type 0
 IsFrom least length at = (least ≤ℤ at) × (at <ℤ (least +ℤ pos length))
 

@@ -22,11 +22,11 @@ pub record IsKey (key : VoxelKey) : Type 0 where
 abbrev pub root : VoxelKey
 root = record { depth = 0; x = 0; y = 0; z = 0 }
 
--- two keys are one
+-- two keys are the same
 abbrev pub same_key : VoxelKey → VoxelKey → Bool
 same_key a b = (a.depth == b.depth) && (a.x == b.x) && (a.y == b.y) && (a.z == b.z)
 
--- the key of an octant of a key's box: bit 0 of the octant is the upper half of x, bit 1 of y, bit 2 of z
+-- the key of an octant of a key's box. Bit 0 of the octant is the upper half of x, bit 1 of y, bit 2 of z.
 unfoldable pub child : VoxelKey → ℕ → VoxelKey
 child key octant = record {
   depth = key.depth + 1;
@@ -39,11 +39,11 @@ child key octant = record {
 unfoldable pub parent : VoxelKey → VoxelKey
 parent key = record { depth = key.depth - 1; x = key.x / 2; y = key.y / 2; z = key.z / 2 }
 
--- the octant that a key is of its parent
+-- which octant of its parent a key is
 unfoldable pub octant_of : VoxelKey → ℕ
 octant_of key = key.x % 2 + 2 * (key.y % 2) + 4 * (key.z % 2)
 
--- the key that many depths above
+-- the key that is `steps` depths above
 unfoldable pub ancestor : ℕ → VoxelKey → VoxelKey
 ancestor steps key = record {
   depth = key.depth - steps;
@@ -62,12 +62,12 @@ is_below top key = nat_lt top.depth key.depth && is_within top key
 
 -- ---- the order of keys: by depth, then x, y and z
 
--- a key stands before another
+-- a key comes before another
 abbrev pub IsBefore : VoxelKey → VoxelKey → Type 0
 IsBefore a b =
     (a.depth < b.depth) ⊎ ((a.depth ≡ b.depth) × ((a.x < b.x) ⊎ ((a.x ≡ b.x) × ((a.y < b.y) ⊎ ((a.y ≡ b.y) × (a.z < b.z))))))
 
--- what `cmp` answers of two keys
+-- what `cmp` of two keys returns
 abbrev pub key_cmp : VoxelKey → VoxelKey → Ordering
 key_cmp a b =
     ordering_then (nat_cmp a.depth b.depth) (ordering_then (nat_cmp a.x b.x) (ordering_then (nat_cmp a.y b.y) (nat_cmp a.z b.z)))

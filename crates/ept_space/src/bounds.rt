@@ -1,7 +1,7 @@
 //! The bounds of a set of points.
 
-/// The places from `min` to `max`, both included, on each axis, in the order x, y, z. The type does not
-/// keep `min` at most `max`.
+/// The places from `min` to `max`, both included, on each axis, in the order x, y, z. The type allows a `min` above
+/// `max`.
 #[derive(Clone, Copy, Debug, PartialEq, Eq)]
 pub struct Bounds {
     pub min: [i32; 3],

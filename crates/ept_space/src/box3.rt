@@ -9,8 +9,8 @@ ghost use Rattle.ept_space.specs.ClosedBox.{IsBetween, Overlap, IsIn, Meet};
 use crate::cube::Cube;
 use crate::key::Key;
 
-/// The whole-number places from `min` to `max`, both included, on each axis; none where `min` is above
-/// `max` on one of them. The order is x, y, z.
+/// The whole-number places from `min` to `max`, both included, on each axis. There are none if `min` is above `max` on
+/// one of them. The order is x, y, z.
 #[derive(Clone, Copy, Debug, PartialEq, Eq)]
 pub struct Box3 {
     pub min: [i64; 3],
@@ -60,7 +60,7 @@ struct Interval {
 }
 
 impl Interval {
-    /// The interval of that index among the intervals of length 2^shift from a corner on.
+    /// The interval of that index among the intervals of length 2^shift that start at a corner.
     #[inline]
     fn of(corner: i64, index: u32, shift: u32) -> Interval
         requires corner_in_range { FitsSigned w32 corner }

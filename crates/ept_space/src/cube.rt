@@ -8,11 +8,11 @@ use crate::bounds::Bounds;
 use ept_class::ClassSet;
 use std::marker::Model;
 
-/// The cube that an octree divides: the corner of its least places, the exponents of its side 2^e and of
-/// its span 2^s (the cells of a box on each axis), and the greatest depth of a node.
+/// The cube that an octree divides. It has the corner of its least places and the exponent `e` of its side 2^e. It has
+/// the exponent `s` of its span 2^s, the cells of a box on each axis, and the greatest depth of a node.
 ///
-/// `s` is 1 to 10, `e` is `s` to 32, the depth is at most `e - s`, so that a cell has at least one unit,
-/// and each number of the corner is in the range of an `i32`.
+/// `s` is 1 to 10 and `e` is `s` to 32. The depth is at most `e - s`, so a cell has at least one unit. Each number of
+/// the corner is in the range of an `i32`.
 #[derive(Clone, Copy, Debug, PartialEq, Eq)]
 pub struct Cube {
     pub corner: [i64; 3],
@@ -40,8 +40,8 @@ impl Cube {
     /// The greatest depth that may be asked for.
     pub const MAX_DEPTH: u8 = 32;
 
-    /// The cube of the bounds: its corner is their minimum, e is the least number that is at least `s` and
-    /// has 2^e greater than max - min on every axis, and the depth is the lesser of `max_depth` and e - s.
+    /// The cube of the bounds. Its corner is their minimum. Its `e` is the least number that is at least `s` and has
+    /// 2^e greater than max - min on every axis. Its depth is the lesser of `max_depth` and e - s.
     pub fn over(bounds: &Bounds, s: u8, max_depth: u8) -> Cube
         requires { HasCube bounds.now s max_depth }
         ensures cube { IsCubeOf bounds.now s max_depth result }
@@ -60,8 +60,8 @@ impl Cube {
         }
     }
 
-    /// The cube of the bounds, as [`over`](Cube::over) says it. None where `s` is not 1 to 10, `max_depth`
-    /// is above 32, or the bounds have no place.
+    /// The cube of the bounds, as [`over`](Cube::over) makes it. `None` if `s` is not 1 to 10, `max_depth` is above 32,
+    /// or the bounds have no place.
     pub fn of(bounds: &Bounds, s: u8, max_depth: u8) -> Option<Cube>
         ensures exists { IsSome result ↔ HasCube bounds.now s max_depth }
         ensures cube { IfSome result (IsCubeOf bounds.now s max_depth) }
@@ -73,7 +73,7 @@ impl Cube {
         Some(Cube::over(bounds, s, max_depth))
     }
 
-    /// Tells a proof what each cube keeps.
+    /// Exposes the type's invariant to the caller's proof. Does nothing at run time.
     pub fn known(&self)
         ensures { IsCube self.now }
     {
@@ -107,7 +107,7 @@ fn extent_bits(bounds: &Bounds) -> u8
 #[derive(Clone, Copy, Debug, PartialEq, Eq)]
 pub struct Rules {
     pub cube: Cube,
-    /// The number of points that an octant keeps in its node before they go down to a child.
+    /// How many points an octant keeps in its node before they go down to a child.
     pub threshold: u64,
     /// The classes whose points come before all others. Without a member all classes are alike.
     pub first: ClassSet,
@@ -119,7 +119,7 @@ impl Rules {
     ghost use Rattle.std.specs.Prelude.{◌≡◌};
     ghost use Rattle.ept_space.specs.Group.{plain_rules};
 
-    /// The rules of a cube and a threshold alone: all classes are alike, and withheld points as others.
+    /// The rules of a cube and a threshold alone: all classes are alike, and withheld points are like others.
     pub fn plain(cube: Cube, threshold: u64) -> Rules
         ensures { result ≡ plain_rules cube threshold }
     {

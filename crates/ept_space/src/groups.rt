@@ -8,9 +8,8 @@ use crate::cube::Rules;
 // The class flag of a withheld point, as the number of its bit.
 const WITHHELD: u8 = 2;
 
-/// The group of a point of that class and those class flags, 0 to 3. Points of a lower group come first:
-/// 2 for a withheld point where such points come last, and 1 more where some classes come first and this
-/// is none of them.
+/// The group of a point of that class and those class flags, 0 to 3. Points of a lower group come first. It is 2 for a
+/// withheld point if such points come last. It is 1 more if some classes come first and this class is not one of them.
 #[tactic(auto, unfolding(crate::specs::Group::group_of))]
 pub fn group(rules: &Rules, class: u8, flags: u8) -> u8
     ensures group { result ≡ group_of rules.now class flags }
@@ -34,7 +33,7 @@ fn is_withheld(flags: u8) -> bool
     flags >> WITHHELD & 1 == 1
 }
 
-// Whether some classes come first, and this is none of them.
+// Whether some classes come first, and this class is not one of them.
 fn comes_later(rules: &Rules, class: u8) -> bool
     ensures { result ≡ comes_later rules.now class }
 {

@@ -5,7 +5,7 @@ ghost use Rattle.ept_space.specs.VoxelKey.{IsKey, IsBefore, child};
 
 use std::marker::Model;
 
-/// The key of a node, `D-X-Y-Z` (Entwine Point Tile 1.1.0, "Keys"): its depth, and the index of its box
+/// The key of a node, `D-X-Y-Z` (Entwine Point Tile 1.1.0, "Keys"). It has the node's depth, and the index of its box
 /// on each axis among the boxes of that depth.
 ///
 /// The depth is at most 31 and each index is below 2^depth. Keys are ordered by depth, then x, y and z.
@@ -41,14 +41,14 @@ impl Key {
         z: 0,
     };
 
-    /// Whether the key stands before another in the order of keys: by depth, then x, y and z.
+    /// Whether the key comes before another in the order of keys: by depth, then x, y and z.
     pub fn is_before(&self, other: &Key) -> bool
         ensures before { IsTrue result ↔ IsBefore self.now other.now }
     {
         self < other
     }
 
-    /// Tells a proof what each key keeps.
+    /// Exposes the type's invariant to the caller's proof. Does nothing at run time.
     pub fn known(&self)
         ensures { IsKey self.now }
     {

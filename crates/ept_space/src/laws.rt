@@ -18,7 +18,8 @@ pub fn family_law()
     ensures one_root { OneRoot }
 {}
 
-/// Being within is reached by parent steps, and is an order in which what a key is within is a chain.
+/// A key is within another if parent steps reach it. Being within is an order, and the keys that a key is within are a
+/// chain.
 pub fn within_law()
     ensures by_parents { WithinByParents }
     ensures below { BelowIsDeeper }
@@ -46,8 +47,8 @@ pub fn text_law()
     ensures one_spelling { OneSpelling }
 {}
 
-/// Bounds lie within others by their places. They have one cube, in which their places lie; the function
-/// of the bounds gives it.
+/// Bounds lie within others by their places. They have one cube, in which their places lie; the function of the bounds
+/// returns it.
 pub fn bounds_law()
     ensures inside { InsideByPlaces }
     ensures in_cube { BoundsAreInCube }
@@ -80,8 +81,8 @@ pub fn box_law()
     ensures apart { ChildBoxesAreApart }
 {}
 
-/// A place of the cube has one cell at each depth, which lies in one cell, box and octant of each depth
-/// above, and its distance from the cell's centre fits 64 bits.
+/// A place of the cube has one cell at each depth. The cell lies in one cell, box and octant of each depth above. The
+/// place's distance from the cell's centre fits 64 bits.
 pub fn cell_law()
     ensures has_cell { PlaceHasCell }
     ensures has_one_cell { PlaceHasOneCell }
@@ -92,7 +93,7 @@ pub fn cell_law()
     ensures small { DistanceIsSmall }
 {}
 
-/// All points are of one group where no class comes first and withheld points are as others.
+/// All points are of one group if no class comes first and withheld points are like others.
 pub fn group_law()
     ensures zero { AllAreOfGroupZero }
     ensures plain { PlainRulesHaveNoGroups }

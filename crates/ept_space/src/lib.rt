@@ -1,9 +1,8 @@
 //! The space of an octree of points: the cube, its keys, boxes, octants and cells.
 //!
-//! Places are whole numbers of stored units. A cube has a corner and a side of 2^e units. The box of a
-//! key `D-X-Y-Z` (Entwine Point Tile 1.1.0, "Keys") is one of the half-open cubes of side 2^(e-D) that
-//! the cube is divided into at depth D, and each box is divided into 2^s cells an axis. No call takes
-//! memory.
+//! Places are whole numbers of stored units. A cube has a corner and a side of 2^e units. At depth D the cube is
+//! divided into half-open cubes of side 2^(e-D). Each is the box of a key `D-X-Y-Z` (Entwine Point Tile 1.1.0, "Keys").
+//! A box is divided into 2^s cells an axis. No call takes memory.
 
 #![tactic(auto)]
 

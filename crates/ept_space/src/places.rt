@@ -1,6 +1,6 @@
 //! Where a place lies: in which octant of a box, in which cell, and how far from the cell's centre.
 //!
-//! A build asks these at each node that a point comes to, so each is a few shifts and no loop.
+//! A build calls these at each node that a point comes to, so each is a few shifts and no loop.
 
 ghost use Rattle.std.specs.Prelude.{◌≡◌, ◌+◌, ◌-◌, ◌*◌, ◌%◌, ◌^◌, ◌<◌, ◌≤◌};
 ghost use Rattle.std.specs.Int.{abs_diff};
@@ -9,8 +9,7 @@ ghost use Rattle.ept_space.specs.OctreeCube.{InBox, InCube, offset, octant_at, c
 use crate::cube::Cube;
 use crate::key::Key;
 
-/// The octant of the key's box in which the place lies: bit 0 is set in the upper half of x, bit 1 of y
-/// and bit 2 of z.
+/// The octant of the key's box in which the place lies. Bit 0 is set in the upper half of x, bit 1 of y and bit 2 of z.
 pub fn octant(cube: &Cube, key: &Key, place: [i32; 3]) -> u8
     requires has_children { key.now.depth < cube.now.depth }
     requires in_box { InBox cube.now key.now place }
@@ -40,8 +39,8 @@ pub fn cell(cube: &Cube, depth: u8, place: [i32; 3]) -> [u32; 3]
     ]
 }
 
-/// How far the place is from the centre of its cell of that depth: the sum over the axes of
-/// (2 * (place - cell corner) - side)^2.
+/// How far the place is from the centre of its cell of that depth. It is the sum over the axes of (2 * (place - cell
+/// corner) - side)^2.
 pub fn centre_distance(cube: &Cube, depth: u8, place: [i32; 3]) -> u64
     requires low { depth ≤ cube.now.depth }
     requires in_cube { InCube cube.now place }

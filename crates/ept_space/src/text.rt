@@ -8,10 +8,10 @@ use crate::key::Key;
 use itoa::Buffer;
 use std::str;
 
-/// What stands between the numbers of a key's text.
+/// What separates the numbers of a key's text.
 const DASH: &[u8] = b"-";
 
-/// Writes the text `D-X-Y-Z` of the key into the front of `into`, and answers its length.
+/// Writes the text `D-X-Y-Z` of the key to the start of `into`, and returns its length.
 pub fn key_text(key: &Key, into: &mut [u8; 40]) -> usize
     ensures text { take result into.new ≡ key_text key.now }
     ensures len { result ≡ length (key_text key.now) }
@@ -26,8 +26,7 @@ pub fn key_text(key: &Key, into: &mut [u8; 40]) -> usize
     append_number(key.z, into, end)
 }
 
-/// The key whose text it is. None where it is the text of no key: of the numbers of a key, each has one
-/// spelling.
+/// The key whose text it is. `None` if it is the text of no key: each number of a key has one spelling.
 pub fn read_key(text: &[u8]) -> Option<Key>
     ensures some { IfSome result (λ key. key_text key ≡ text.now) }
     ensures key { IfSome result IsKey }
@@ -39,7 +38,7 @@ pub fn read_key(text: &[u8]) -> Option<Key>
     (&spelled[..length] == text).then_some(key)
 }
 
-/// The key of the four numbers of a text, where they may be spelled in other ways than a key's.
+/// The key of the four numbers of a text, which may be spelled in other ways than a key's.
 fn numbers(text: &str) -> Option<Key>
     ensures { (key : VoxelKey) → IsKey key → text.now ≡ key_text key → result ≡ Some key }
 {
@@ -50,7 +49,7 @@ fn numbers(text: &str) -> Option<Key>
     key_of(depth, x, y, z)
 }
 
-/// The key of these numbers; None where they are no key's.
+/// The key of these numbers; `None` if no key has them.
 fn key_of(depth: u32, x: u32, y: u32, z: u32) -> Option<Key>
     ensures { IsKey (record { depth = depth; x = x; y = y; z = z })
         → result ≡ Some (record { depth = depth; x = x; y = y; z = z }) }
@@ -79,14 +78,14 @@ fn next_number(text: &str) -> Option<(u32, &str)>
     Some((number(digits)?, rest))
 }
 
-/// The number that a text of digits is.
+/// The number that a text of digits represents.
 fn number(text: &str) -> Option<u32>
     ensures { (n : ℕ) → n < 2 ^ 32 → text.now ≡ decimal n → result ≡ Some n }
 {
     text.parse().ok()
 }
 
-/// Writes a number in decimal at a place, and answers the place behind it.
+/// Writes a number in decimal at a place, and returns the place after it.
 fn append_number(n: u32, into: &mut [u8; 40], at: usize) -> usize
     requires { at + length (decimal n) ≤ 40 }
     ensures text { take result into.new ≡ take at into.old ++ decimal n }
@@ -96,7 +95,7 @@ fn append_number(n: u32, into: &mut [u8; 40], at: usize) -> usize
     append(Buffer::new().format(n).as_bytes(), into, at)
 }
 
-/// Writes bytes at a place, and answers the place behind them.
+/// Writes bytes at a place, and returns the place after them.
 fn append(bytes: &[u8], into: &mut [u8; 40], at: usize) -> usize
     requires { at + length bytes.now ≤ 40 }
     ensures text { take result into.new ≡ take at into.old ++ bytes.now }

@@ -1,4 +1,4 @@
--- What is scanned can be read again, as so many points.
+-- What is scanned can be read again, as the same number of points.
 use Rattle.std.proofs.Common.{◌≡◌, ◌∙◌, ℕ, List, [], ◌∷◌, length, refl, sym, ap, subst, arith, length-append, Option, Some}
 use Rattle.std.specs.List.{AllZip}
 use Rattle.std.proofs.lemmas.List.Sums.{sum_by-cons}

@@ -7,8 +7,8 @@ use Rattle.ept_scan.specs.Opening.{IsFileOf}
 use Rattle.ept_scan.specs.Reader.{drawn_of, left_of, refusal_of, files_of, IsRest, IsReader}
 use Rattle.ept_table_fixtures.specs.declared.known.Known.{Known}
 
--- The reader has drawn nothing, and its sources hold the points, which can be sampled. Its inputs were counted within the
--- bounds of the rules' cube.
+-- The reader has drawn nothing, and its sources hold the points, which can be sampled. Its inputs were counted within
+-- the bounds of the rules' cube.
 pub record IsKnown {S : Type 0} (whole left : S → Option (List ℕ)) (given faults : S → ℕ) (known : Known S) : Type 0 where
   pub can : CanBeSampled known.rules known.points.items
   pub total : length known.points.items ≡ left_of known.reader

@@ -10,7 +10,7 @@ fn put(file: &mut [u8], at: usize, bytes: &[u8]) {
     }
 }
 
-/// A LAS 1.2 file of point format 0 with points at these places, of which all else is zero.
+/// A LAS 1.2 file of point format 0 with points at these places. All else of the points is zero.
 pub fn las(alloc: Global, places: &[[i32; 3]]) -> Result<Vec<u8>, AllocError> {
     let mut file = vec![in alloc; 0u8; 227]?;
     let bytes = file.as_mut_slice();

@@ -26,8 +26,8 @@ pub struct Known<S> {
     pub reader: Reader<S>,
 }
 
-/// Reads the files of a configuration to their counts, to their points, and then opens the reader, which may draw so many.
-/// None where that is refused.
+/// Reads the files of a configuration to their counts, to their points, and then opens the reader, which may draw
+/// `allowed` points. `None` if that is refused.
 pub fn read_known(
     alloc: Global,
     shelf: &mut MemShelf,

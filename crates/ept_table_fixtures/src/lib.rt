@@ -1,5 +1,5 @@
-//! What tests of tables of nodes begin with: files of points in memory, a reader over them of which all points are known,
-//! and a table that is made of it and a new forest.
+//! What tests of tables of nodes begin with: files of points in memory, and a reader over them of which all points are
+//! known. Then a table of this reader and a new forest.
 #![tactic(auto)]
 
 mod files;

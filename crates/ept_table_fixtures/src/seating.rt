@@ -17,8 +17,8 @@ use ept_forest::Forest;
 use ept_table::{NodeTable, Scan, Seat, Unmade, plant_law, scanned_law};
 use std::alloc::Global;
 
-/// A table of a new forest of so many nodes, so many of which may be in memory, and of a known reader, and its first seat. Or
-/// there was no memory.
+/// A table of a new forest of `most` nodes, at most `cache` of them in memory, and of a known reader, with its first
+/// seat. Or the parts, if there was no memory.
 pub fn seated<F: SpillFile, S: Source, J: Scan>(
     alloc: Global,
     forest: Forest<F>,

@@ -1,4 +1,4 @@
--- An item that is given back as it was taken.
+-- An item that is returned as it was taken.
 use Rattle.std.proofs.Common.{◌≡◌, ◌∙◌, ℕ, zero, suc, inl, inr, refl, ap, arith}
 use Rattle.ept_table.specs.declared.done.Done.TheVariants.{Nothing}
 use Rattle.ept_table.specs.declared.note.Told.{Told}

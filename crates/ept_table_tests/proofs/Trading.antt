@@ -53,7 +53,7 @@ first-done : (id : ℕ) (v : Known) → At (first_view {T = ℕ} 1 0 ∷ []) id 
 first-done zero v e = subst IsDone (some-injective (first_view 1 0) v e) (λ _. refl)
 first-done (suc id) v e = absurd (some-ne-none v (sym e))
 
--- the numbers take no permit, and there is none
+-- the numbers take no permit, and there is no permit
 pub no-permits : (items : List ℕ) → (0 + sum_by (λ (x : ℕ). 0) items ≡ 0) × (0 < 18446744073709551616)
 no-permits items = (omega (arith, sum-none items), omega arith)
 
@@ -64,13 +64,13 @@ all-zero : (views : List Known) → ((j : ℕ) (w : Known) → At views j w → 
 all-zero [] each = refl
 all-zero (w ∷ ws) each = omega (arith, sum_by-cons carried_of w ws, each 0 w refl, all-zero ws (λ j u e. each (suc j) u e))
 
--- at the end the numbers that lie there and the one that the seat carries are all there is
+-- at the end the numbers in the slots and the number that the seat carries are all there is
 pub ends : (total most id : ℕ) (v : Known) (drawn : ℕ) (items : List ℕ) → Ended (AddsUp total) most id v drawn items → sum_by number items + v.note ≡ total
 ends total most id v drawn items end = let views = end.0 in let a = end.2 in let at = end.3 in let before : sum_by number items + sum_by carried_of views ≡ total = a.adds in
     let notes : sum_by carried_of (set views id (spent_view 0)) + v.note ≡ sum_by carried_of views + 0 = sum-put carried_of views id v (spent_view 0) at in
     let none = all-zero (set views id (spent_view 0)) (λ j w e. ⊎_elim (λ p. ap (λ (z : Known). z.note) (sym p.1)) (λ p. a.done j w p.1 (end.4 j w p.1 p.0)) (at_set views id j (spent_view 0) w e)) in omega arith
 
--- what a draw tells
+-- what a draw makes known
 abbrev pub Tells : Known → Option ℕ → ℕ → Type 0
 Tells v k n = KeepsNote v n × IfSome k (λ j. j ≡ 1)
 

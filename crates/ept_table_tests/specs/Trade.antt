@@ -1,4 +1,4 @@
--- A table of numbers: what lies in it and what the seats carry add up to the same number always. One slot may be drawn.
+-- A table of numbers: what is in it and what the seats carry always add up to the same number. One slot may be drawn.
 use Rattle.std.specs.Prelude.{◌≡◌, ℕ, ◌+◌, List}
 use Rattle.std.specs.List.{sum_by}
 use Rattle.ept_slots.specs.declared.view.View.{View}

@@ -26,7 +26,7 @@ impl SlotRule<bool, u64, u64> for Loading {
     ghost first = { λ _. 0 };
 }
 
-// Nothing is told.
+// Nothing is known.
 pub struct Any;
 
 impl Take<bool, u64> for Any {
@@ -53,7 +53,7 @@ pub type Bay = Slots<bool, u64, u64, u64, Loading>;
 
 pub type Loader = SlotSeat<bool, u64, u64>;
 
-// Leaves a load in a slot, for which the loader has a permit, or none. What was loaded there gives its permit back.
+// Leaves a load in a slot, for which the loader has a permit, or no load. What was loaded there returns its permit.
 fn put<H: Wait>(rt: &H, bay: &Bay, loader: &mut Loader, slot: usize, is_loaded: bool)
     requires seat { IsSeatOf one bay.now loader.old }
     requires idle { IsIdleWith (view loader.old) (view loader.old).parts (load_of is_loaded) × (0 < (view loader.old).parts) }
@@ -69,7 +69,7 @@ fn put<H: Wait>(rt: &H, bay: &Bay, loader: &mut Loader, slot: usize, is_loaded: 
     bay.give_permit(loader);
 }
 
-// Loads a slot, where there is a permit for it.
+// Loads a slot, if there is a permit for it.
 fn load<H: Wait>(rt: &H, bay: &Bay, loader: &mut Loader, slot: usize) -> bool
     requires seat { IsSeatOf one bay.now loader.old }
     requires idle { IsIdleWith (view loader.old) (view loader.old).parts 0 × (0 < (view loader.old).parts) }
@@ -99,7 +99,7 @@ fn work<H: Wait>(rt: &H, bay: &Bay, mut loader: Loader, from: usize, to: usize) 
     loader
 }
 
-// Two loaders, each in a thread: what is loaded in the end and what is free then are all permits.
+// Two loaders, each in a thread: what is loaded at the end and what is free then are all permits.
 pub fn load_apart<R: Threads + Wait + Sync>(
     rt: &R,
     alloc: Global,

@@ -30,8 +30,8 @@ pub enum Found {
     Reader { drawn: u64 },
 }
 
-/// What a session leaves, and what it found in the slots 0, 1 and the last one, and in slot 1 by a second seat, where
-/// there was memory for it.
+/// What a session leaves. Also what it found in the slots 0, 1 and the last one, and a second seat in slot 1. It found
+/// nothing if there was no memory for it.
 pub struct Left<F, S> {
     pub forest: Forest<F>,
     pub reader: Reader<S>,
@@ -54,7 +54,7 @@ fn found_in<F: SpillFile, S: Source>(item: &Item<F, S>) -> Found {
     }
 }
 
-// Takes what lies in a slot, and gives it back as it was.
+// Takes what lies in a slot, and returns it as it was.
 fn look_into<F: SpillFile, S: Source, J: Scan, H: Wait>(
     rt: &H,
     table: &NodeTable<F, S, J>,

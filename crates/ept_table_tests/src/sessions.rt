@@ -1,4 +1,4 @@
-//! Tables that give back what they were made of.
+//! Tables that return what they were made of.
 
 ghost use Rattle.std.specs.Prelude.{◌≤◌};
 
@@ -16,8 +16,8 @@ use std::test::Fail;
 const CONFIG: &str =
     r#"{"input":"a.las","scale":0,"bounds":[0,0,0,7,7,7],"span":2,"minNodeSize":0,"maxDepth":2}"#;
 
-// What a session at a table of so many nodes found, how many slots were drawn then, what a further draw gave, and the
-// places of the points that the reader gave after it.
+// What a session at a table found, and how many slots were drawn then. Also what a further draw gave, and the places of
+// the points that the reader gave after it.
 #[derive(Drop)]
 struct Visited {
     found: Option<[Found; 4]>,
@@ -85,7 +85,7 @@ const ROOT: Found = Found::Node {
     opened: 0,
 };
 
-// At a table of so many nodes the last slot has this, and a further draw gives that.
+// At a table of `most` nodes the last slot has this, and a further draw gives that.
 fn expect_session<H: Wait + Abort>(
     rt: &H,
     alloc: Global,

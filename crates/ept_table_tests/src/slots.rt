@@ -67,7 +67,7 @@ fn a_free_slot_is_taken_at_once(rt: HostRuntime) -> Result<(), Fail> {
 
 #[test]
 fn permits_run_out_and_are_given_back(rt: HostRuntime) -> Result<(), Fail> {
-    // One of the two permits is in the first slot as the table is made, or none is.
+    // One of the two permits is in the first slot when the table is made, or none is.
     for (first, free) in [(false, 2u64), (true, 1)] {
         let items = [first, false, false].to_vec(rt.alloc())?;
         let Ok(

@@ -1,4 +1,4 @@
-//! Numbers that are traded at a table: a trader leaves what it carries in a slot and takes what lay there.
+//! Numbers that are traded at a table: a trader leaves what it carries in a slot and takes what was there.
 ghost use Rattle.std.specs.Prelude.{◌≡◌, ℕ, ◌+◌, ◌<◌, ◌≤◌, length, IfOk, IfSome, unwrap_or};
 ghost use Rattle.std.specs.List.{sum_by};
 ghost use Rattle.ept_slots.specs.Views.{HoldsNothing};
@@ -41,7 +41,7 @@ impl Note<u64, u64, u64> for Same {
     ghost tells = { λ v _ n. KeepsNote v n };
 }
 
-// The one number that can be drawn is 1.
+// The only number that can be drawn is 1.
 impl Draw<u64, u64> for Same {
     ghost tells = { λ v k n. KeepsNote v n × IfSome k (λ j. j ≡ 1) };
 }
@@ -69,7 +69,7 @@ pub type Market = Slots<u64, u64, u64, u64, Constant>;
 
 pub type Trader = SlotSeat<u64, u64, u64>;
 
-// Leaves what the trader carries in a slot, and gives what lay there.
+// Leaves what the trader carries in a slot, and returns what was there.
 fn trade<H: Wait>(rt: &H, market: &Market, trader: &mut Trader, slot: usize, carried: u64) -> u64
     requires seat { IsSeatOf one market.now trader.old }
     requires idle { HoldsNothing (view trader.old) × (0 < (view trader.old).parts) × ((view trader.old).note ≡ carried) }
@@ -128,7 +128,7 @@ fn finish(market: Market, mut trader: Trader, first: u64, other: Trader, second:
     }
 }
 
-// Two traders, each in a thread: what lies there in the end and what they carry then is what lay there.
+// Two traders, each in a thread: what is in the slots at the end and what they carry then is what was there at first.
 pub fn trade_apart<R: Threads + Wait + Sync>(
     rt: &R,
     alloc: Global,
@@ -158,7 +158,7 @@ pub struct Drawn {
     pub ending: Ending<u64>,
 }
 
-// Of one slot that may be drawn, two are asked for.
+// Two slots are asked for, and one may be drawn.
 pub fn draw_twice(alloc: Global, items: Vec<u64, Global>, total: u64) -> Result<Drawn, Refused<u64>>
     requires total { total ≡ sum_by number items.items }
     ensures { IfOk result (λ d. IfSome d.first (λ k. k ≡ 1) × (sum_by number d.ending.items.items ≡ total)) }
@@ -176,7 +176,7 @@ pub fn draw_twice(alloc: Global, items: Vec<u64, Global>, total: u64) -> Result<
     })
 }
 
-// One try to take what lies in the first slot, which is left empty then.
+// One attempt to take what is in the first slot, which is left empty then.
 fn try_once(market: &Market, trader: &mut Trader) -> Option<u64>
     requires seat { IsSeatOf one market.now trader.old }
     requires idle { HoldsNothing (view trader.old) × (0 < (view trader.old).parts) × ((view trader.old).note ≡ 0) }
@@ -189,7 +189,7 @@ fn try_once(market: &Market, trader: &mut Trader) -> Option<u64>
     Some(market.give::<Carries>(trader, 0, 0, found, false))
 }
 
-// What one try takes is missing in the end, and nothing else.
+// What one attempt takes is missing at the end, and nothing else.
 pub fn take_first(
     alloc: Global,
     items: Vec<u64, Global>,

@@ -58,7 +58,7 @@ module _ (at i : ℕ) where
       let wide : i % 65536 < 256 ^ 2 = omega arith in
       little_number-reads_back 2 (i % 65536) (replicate 6 0) wide
 
--- ---- where raw coordinates are stored as they are
+-- ---- if raw coordinates are stored as they are
 
 pub record KeepsPlaces (shift : Shift) : Type 0 where
   pub factor_is : shift.factor ≡ pos 1

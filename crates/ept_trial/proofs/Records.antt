@@ -1,4 +1,4 @@
--- The records of an input's file, and where each stands.
+-- The records of an input's file, and where each is.
 use Rattle.std.proofs.Common.{◌≡◌, ◌∙◌, ℕ, zero, suc, ◌+◌, ◌*◌, ◌<◌, ◌≤◌, List, ◌++◌, length, take, drop, refl, sym, ap, subst, arith, append_assoc, length-append, ⊎_elim}
 use Rattle.std.proofs.lemmas.Bool.{cases_lt}
 use Rattle.std.specs.Prelude.{◌%◌, replicate}
@@ -46,7 +46,7 @@ record-at count input (suc n) k more within =
     ∙ take-at 20 r more (length-record (state count (3 * (4 * n + input))) (4 * n + input))))
     (cases_lt k n))
 
--- ---- one record more
+-- ---- one more record
 
 five : (out p q r s t : List ℕ) → ((((out ++ p) ++ q) ++ r) ++ s) ++ t ≡ out ++ (p ++ (q ++ (r ++ (s ++ t))))
 five out p q r s t = simp append_assoc

@@ -1,4 +1,4 @@
--- If no device fails, the build of a trial is refused only when memory runs out; and the rules of its sampling.
+-- If no device fails, the build of a trial is refused only if memory runs out; and the rules of its sampling.
 use Rattle.std.proofs.Common.{◌≡◌, ◌∙◌, ◌⊎◌, ⊎_elim, ℕ, ◌≤◌, List, Option, Some, None, length, refl, sym, subst, arith}
 use Rattle.std.specs.Prelude.{All, false}
 use lib.Count.{count_leading_zeros}

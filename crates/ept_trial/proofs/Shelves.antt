@@ -18,7 +18,7 @@ same-path : (a b : List ℕ) → Some a ≡ Some b → a ≡ b
 same-path a b is = cc
 
 module _ (count : ℕ) (a b c d : File) (is_a : IsFile count 0 (codes "trial-0.las") a) (is_b : IsFile count 1 (codes "trial-1.las") b) (is_c : IsFile count 2 (codes "trial-2.las") c) (is_d : IsFile count 3 (codes "trial-3.las") d) where
-  -- what is found under a name, where each file has its name and its bytes
+  -- what is found under a name, if each file has its name and its bytes
   found : (name : List ℕ) → or_empty (content_of (a ∷ b ∷ c ∷ d ∷ [])) name ≡ Some (unwrap_or (if bytes_eq (codes "trial-0.las") name then Some (scan_bytes count 0) else (if bytes_eq (codes "trial-1.las") name then Some (scan_bytes count 1) else (if bytes_eq (codes "trial-2.las") name then Some (scan_bytes count 2) else (if bytes_eq (codes "trial-3.las") name then Some (scan_bytes count 3) else None)))) [])
   found name = λ i. Some (unwrap_or (if bytes_eq (is_a.path_is i) name then Some (is_a.bytes_are i) else (if bytes_eq (is_b.path_is i) name then Some (is_b.bytes_are i) else (if bytes_eq (is_c.path_is i) name then Some (is_c.bytes_are i) else (if bytes_eq (is_d.path_is i) name then Some (is_d.bytes_are i) else None)))) [])
 

@@ -1,4 +1,4 @@
--- What keys and the bytes of their tiles come to, one key more.
+-- What keys and the bytes of their tiles come to, with one more key.
 use Rattle.std.proofs.Common.{◌≡◌, ◌∙◌, ℕ, ◌+◌, ◌%◌, ◌^◌, ◌<◌, List, [], ◌∷◌, ◌++◌, length, get_or, take, refl, sym, ap, arith}
 use Rattle.std.specs.Prelude.{map, max, sum_by}
 use Rattle.std.specs.List.{flat_map}

@@ -5,7 +5,7 @@ use Rattle.ept_base.specs.Files.{Files}
 use Rattle.ept_num.specs.Generator.{after}
 use Rattle.ept_trial.specs.Trials.{state}
 
--- the number below another one that a state of the generator gives
+-- the number that a state of the generator gives, below another one
 abbrev pub drawn : ℕ → ℕ → ℕ
 drawn at below = (at / 2 ^ 33) % below
 

@@ -55,7 +55,7 @@ pub fn build_trial<R: Threads + Wait + Sync>(
 }
 
 // Builds the files of a trial. The devices never fail, the scans are good, and their octree has few enough nodes. So
-// the build is refused only when memory runs out.
+// the build is refused only if memory runs out.
 fn build_files<R: Threads + Wait + Sync>(
     rt: &R,
     alloc: Global,
@@ -84,7 +84,7 @@ fn build_files<R: Threads + Wait + Sync>(
     }
 }
 
-// The one refusal that there is.
+// The only refusal that there is.
 fn only_memory(error: BuildError) -> Memory
     requires { error ≡ BuildError.Memory }
 {

@@ -9,7 +9,7 @@ use ept_num::lcg;
 use ept_point::Memory;
 use std::alloc::Global;
 
-// X and Y are below this number, and Z below that one.
+// X and Y are below `WIDE`, and Z is below `HIGH`.
 const WIDE: u32 = 100_000;
 
 const HIGH: u32 = 1_000;
@@ -90,7 +90,7 @@ fn append_u32(out: &mut Vec<u8>, number: u32) -> Result<(), Memory>
     append(out, &number.to_le_bytes())
 }
 
-// The number below another one that a state gives.
+// The number that a state gives, below another one.
 fn coordinate(at: u64, below: u32) -> u32
     requires { 0 < below }
     ensures { result ≡ drawn at below }

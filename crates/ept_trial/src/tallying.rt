@@ -50,7 +50,7 @@ fn nodes(alloc: Global, store: &mut SureStore, points: u32) -> Result<QueryPlan,
     }
 }
 
-// The one refusal that there is.
+// The only refusal that there is.
 fn only_memory(error: QueryError) -> Memory
     requires { error ≡ QueryError.Memory }
 {

@@ -21,7 +21,7 @@ module _ {F S : Type 0} (held : F → Option (List ℕ)) (contents : S → Optio
     pub idle : IsIdle (knows held contents worker)
     pub landed : (knows held contents worker).note.flights ≡ []
 
-  -- it has a permit for the node that it holds, which was not broken as it was taken
+  -- it has a permit for the node that it holds, which was not broken when it was taken
   abbrev pub HasPermit : Worker F S → Type 0
   HasPermit worker = (1 ≤ spare_of (view (seat_of worker))) × HoldsWhole (view (seat_of worker))
 
@@ -36,7 +36,7 @@ module _ {F S : Type 0} (held : F → Option (List ℕ)) (contents : S → Optio
   abbrev pub parts_of : Worker F S → ℕ
   parts_of worker = (knows held contents worker).parts
 
--- a table of which this is told
+-- a table of which this is known
 pub record IsTable {F S J : Type 0} (told : Told) (table : NodeTable F S J) : Type 0 where
   pub slots : slots_of table ≡ told.most + 1
   pub rules : rules_of table ≡ told.rules
@@ -46,7 +46,7 @@ pub record IsHand {F S J : Type 0} (held : F → Option (List ℕ)) (contents : 
   pub seat : IsSeat told table (seat_of hand.worker)
   pub at : IsAt held contents told hand.worker hand.doing
 
--- two workers, which have all shares
+-- two workers, which have all shares together
 pub record IsPair {F S J : Type 0} (held : F → Option (List ℕ)) (contents : S → Option (List ℕ)) (told : Told) (table : NodeTable F S J) (pair : Pair F S) : Type 0 where
   pub first : IsHand held contents told table pair.first
   pub second : IsHand held contents told table pair.second

@@ -10,7 +10,7 @@ use Rattle.ept_table.specs.declared.table.NodeTable.{NodeTable}
 use Rattle.ept_table.specs.Steps.{first_note}
 use Rattle.ept_table.specs.Table.{slots_of, rules_of, IsSeat}
 
--- a table of which this is told, with its first seat
+-- a table of which this is known, with its first seat
 pub record IsNewTable {F S J : Type 0} (told : Told) (table : NodeTable F S J) (seat : SlotSeat (Item F S) Note Said) : Type 0 where
   pub is_seat : IsSeat told table seat
   pub first : view seat ≡ first_view told.most (first_note told)

@@ -23,15 +23,15 @@ use std::thread::Threads;
 /// How workers work at a table.
 #[derive(Clone, Copy)]
 pub enum Plan<'a> {
-    /// Two take these turns, in which one of them makes a step.
+    /// Two workers take these turns, in which one of them makes a step.
     Turns(&'a [bool]),
-    /// One makes so many steps, of which a whole visit is one.
+    /// One worker makes this number of steps, of which a whole visit is one.
     Visits(u32),
-    /// Each of some works in a thread.
+    /// Several workers, each in a thread.
     Threads(Crew),
 }
 
-/// So many workers.
+/// The workers of a plan with threads, by their number.
 #[derive(Clone, Copy)]
 pub struct Crew {
     pub workers: u32,
@@ -54,7 +54,7 @@ pub struct Worked<F, S> {
     pub refused: [Option<WorkError>; 2],
 }
 
-/// Workers at a table of a new forest and a known reader, at which so many nodes may be in memory.
+/// Workers at a table of a new forest and a known reader, which has nodes and memory within these limits.
 pub fn work<
     F: SpillFile + Send + Sync,
     S: Source + Send,

@@ -14,7 +14,7 @@ use ept_work::{Landing, Visit, WorkError, Worker};
 use std::alloc::Global;
 use std::sync::Wait;
 
-/// The next step of a worker: one that carries no flight draws, one that has drawn nothing ends.
+/// The next step of a worker. A worker that carries no flight draws, and a worker that has drawn nothing ends.
 pub fn step<F: SpillFile, S: Source, J: Scan, H: Wait>(
     rt: &H,
     alloc: Global,
@@ -63,7 +63,7 @@ pub fn whole_step<F: SpillFile, S: Source, J: Scan, G: Gate, H: Wait>(
     }
 }
 
-// Draws, where no flight is carried, or visits the next flight's node.
+// Draws, if no flight is carried, or visits the next flight's node.
 fn visit<F: SpillFile, S: Source, J: Scan, G: Gate, H: Wait>(
     rt: &H,
     alloc: Global,
@@ -89,7 +89,7 @@ fn visit<F: SpillFile, S: Source, J: Scan, G: Gate, H: Wait>(
     }
 }
 
-// Draws, where no flight is carried, or takes up the next flight's node.
+// Draws, if no flight is carried, or takes up the next flight's node.
 fn begin<F: SpillFile, S: Source, J: Scan, H: Wait>(
     rt: &H,
     alloc: Global,
@@ -114,7 +114,7 @@ fn begin<F: SpillFile, S: Source, J: Scan, H: Wait>(
     }
 }
 
-// Draws a batch, or ends where there is none.
+// Draws a batch, or ends if there is none.
 fn draw<F: SpillFile, S: Source, J: Scan, H: Wait>(
     rt: &H,
     alloc: Global,

@@ -21,7 +21,7 @@ fn held_slot<F>(doing: &Doing<F>) -> Option<u32> {
     }
 }
 
-// Whether the next step of one would have to wait for the node that the other holds.
+// Whether the next step of one worker would have to wait for the node that the other holds.
 fn may_wait<F: SpillFile, S: Source, J: Scan>(
     table: &NodeTable<F, S, J>,
     one: &Hand<F, S>,
@@ -33,7 +33,7 @@ fn may_wait<F: SpillFile, S: Source, J: Scan>(
     }
 }
 
-// One of the workers makes a step. Where it would have to wait, the other one makes it.
+// One of the workers makes a step. If it would have to wait, the other one makes it.
 fn turn<F: SpillFile, S: Source, J: Scan, H: Wait>(
     rt: &H,
     alloc: Global,

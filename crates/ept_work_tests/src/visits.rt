@@ -13,7 +13,7 @@ use ept_work::Worker;
 use std::alloc::Global;
 use std::sync::Wait;
 
-/// One worker makes so many steps, and ends.
+/// One worker makes `steps` steps, and ends.
 pub fn work_by_visits<F: SpillFile, S: Source, J: Scan, G: Gate, H: Wait>(
     rt: &H,
     alloc: Global,
@@ -38,7 +38,7 @@ pub fn work_by_visits<F: SpillFile, S: Source, J: Scan, G: Gate, H: Wait>(
     }
 }
 
-// The worker makes so many steps.
+// The worker makes `steps` steps.
 fn take_steps<F: SpillFile, S: Source, J: Scan, G: Gate, H: Wait>(
     rt: &H,
     alloc: Global,

@@ -1,4 +1,4 @@
-//! What workers leave, beside the sampling of the points.
+//! What workers leave, next to the sampling of the points.
 
 ghost use Rattle.std.specs.Prelude.{◌≤◌};
 
@@ -28,15 +28,15 @@ const SMALL: &str =
 const WIDE: &str =
     r#"{"input":"a.las","scale":0,"bounds":[0,0,0,31,31,31],"span":2,"minNodeSize":3,"maxDepth":4}"#;
 
-// A node that stands in a slot.
+// A node that is in a slot.
 #[derive(Drop)]
 struct Standing {
     key: Key,
     points: Vec<Point>,
 }
 
-// All points and their rules, what stands then if no node is broken, how many nodes are in memory, why one is broken, and why
-// the workers were refused.
+// All points and their rules, and, if no node is broken, the nodes that are there then. Also how many nodes are in
+// memory, why one is broken, and why the workers were refused.
 #[derive(Drop)]
 struct Built {
     rules: Rules,
@@ -66,7 +66,7 @@ fn standing_in<F: SpillFile>(
     Ok(standing)
 }
 
-// Points, and the table that they are brought to.
+// Points, and the table that they are inserted into.
 #[derive(Clone, Copy)]
 struct Case<'a> {
     config: &'a str,
@@ -76,7 +76,7 @@ struct Case<'a> {
     fails: &'a [u64],
 }
 
-// Workers bring the points of a case down.
+// Workers insert the points of a case.
 fn build_case<G: Gate + Sync, R: Threads + Wait + Sync>(
     rt: &R,
     alloc: Global,
@@ -133,7 +133,7 @@ fn build_case<G: Gate + Sync, R: Threads + Wait + Sync>(
     })
 }
 
-// Workers bring the points at these places down to at most so many nodes, all of which may be in memory.
+// Workers insert the points at these places into at most `most` nodes, all of which may be in memory.
 fn build<G: Gate + Sync, R: Threads + Wait + Sync>(
     rt: &R,
     alloc: Global,
@@ -155,7 +155,7 @@ fn build<G: Gate + Sync, R: Threads + Wait + Sync>(
     build_case(rt, alloc, case, plan, gate)
 }
 
-// Whether the node of a key stands there, with the points of these numbers.
+// Whether the node of a key is there, with the points of these numbers.
 fn stands(built: &Built, key: Key, numbers: &[PointNumber]) -> bool {
     built.standing.iter().any(|node| {
         node.key == key
@@ -171,7 +171,7 @@ fn stands(built: &Built, key: Key, numbers: &[PointNumber]) -> bool {
 // The worked example of points that make three nodes.
 const PLACES: [[i32; 3]; 5] = [[1, 1, 1], [2, 2, 2], [3, 3, 3], [6, 6, 6], [5, 5, 5]];
 
-// The ways in which few points are brought down.
+// The ways in which few points are inserted.
 const PLANS: [Plan<'static>; 4] = [
     Plan::Turns(&[true; 40]),
     Plan::Visits(40),
@@ -237,7 +237,7 @@ fn a_worked_example_has_its_nodes_or_too_many(rt: HostRuntime) -> Result<(), Fai
     Ok(())
 }
 
-// Numbers as if drawn by lot, the same in each run.
+// Numbers that look random, the same in each run.
 #[derive(Drop)]
 struct Lot {
     state: u64,
@@ -261,7 +261,7 @@ impl Lot {
         Ok(places)
     }
 
-    // Turns of which each worker has some at a time.
+    // Turns, of which each worker has several in a row.
     fn turns(&mut self, alloc: Global, count: u32) -> Result<Vec<bool>, AllocError> {
         let mut turns = Vec::new(alloc);
         let run = self.next() % 9 + 1;
@@ -276,7 +276,7 @@ impl Lot {
     }
 }
 
-// Whether what stands is these tiles.
+// Whether the nodes that are there are these tiles.
 fn are_same(standing: &[Standing], tiles: &Tiles) -> bool {
     let tiles = tiles.tiles.as_slice();
     standing.len() == tiles.len()
@@ -286,7 +286,7 @@ fn are_same(standing: &[Standing], tiles: &Tiles) -> bool {
         })
 }
 
-// Whether what stands is the sampling of the points, which is taken once.
+// Whether the nodes that are there are the sampling of the points, which is taken once.
 fn is_sampled(
     rt: &impl Abort,
     alloc: Global,
@@ -351,13 +351,14 @@ fn two_workers_find_too_many_nodes(rt: HostRuntime) -> Result<(), Fail> {
     Ok(())
 }
 
-// How long a worker waits for another one, and how often it is tried: of so few records none may be left to draw for a worker
-// whose next node the other one is held in.
+// How long a worker waits for another one, and the number of attempts. There are few records. So none may be left to
+// draw for a worker whose next node is the one in which the other is held.
 const TURNS: u64 = 1_000_000;
 
 const TRIES: usize = 12;
 
-// Whether one of two workers came to a node while the other one was held in another. The nodes are the sampling in any case.
+// Whether one of two workers came to a node while the other one was held in another. The nodes are the sampling in any
+// case.
 fn have_met<R: Threads + Wait + Sync + Abort>(
     rt: &R,
     alloc: Global,
@@ -384,7 +385,7 @@ fn two_workers_are_in_two_nodes_at_one_time(rt: HostRuntime) -> Result<(), Fail>
     Err(Fail::new("no worker met the other one"))
 }
 
-// Workers at tables of which few nodes may be in memory.
+// Workers at tables, few nodes of which may be in memory.
 const TIGHT: [(Crew, Limits); 3] = [
     (
         Crew { workers: 1 },
@@ -432,7 +433,7 @@ fn few_nodes_in_memory_are_the_same_nodes(rt: HostRuntime) -> Result<(), Fail> {
     Ok(())
 }
 
-// The first call of a file keeps the points of its node, and the second one gives them back.
+// The first call of a file keeps the points of its node, and the second one returns them.
 #[test]
 fn a_file_that_fails_leaves_a_broken_node(rt: HostRuntime) -> Result<(), Fail> {
     let alloc = rt.alloc();
