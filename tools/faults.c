@@ -4,15 +4,16 @@
 #include <errno.h>
 #include <fcntl.h>
 #include <stdarg.h>
+#include <stdatomic.h>
 #include <stdio.h>
 #include <stdlib.h>
 #include <string.h>
 #include <sys/syscall.h>
 #include <unistd.h>
-static long calls;
+static atomic_long calls;
 static int fails(const char *name, int error) {
   const char *kind = getenv("FAIL_KIND"), *at = getenv("FAIL_AT");
-  if (!kind || strcmp(kind, name) || ++calls != atol(at)) return 0;
+  if (!kind || strcmp(kind, name) || atomic_fetch_add(&calls, 1) + 1 != atol(at)) return 0;
   errno = error;
   return 1;
 }
@@ -23,6 +24,7 @@ ssize_t read(int f, void *b, size_t n) { return fails("read", EIO) ? -1 : syscal
 ssize_t write(int f, const void *b, size_t n) { return fails("write", EIO) ? -1 : syscall(SYS_write, f, b, n); }
 ssize_t __write(int f, const void *b, size_t n) { return write(f, b, n); }
 int fsync(int f) { return fails("fsync", EIO) ? -1 : syscall(SYS_fsync, f); }
+int fdatasync(int f) { return fails("fsync", EIO) ? -1 : syscall(SYS_fdatasync, f); }
 int mkdir(const char *p, mode_t m) { return fails("mkdir", EACCES) ? -1 : syscall(SYS_mkdir, p, m); }
 int open(const char *p, int flags, ...) {
   va_list rest;
@@ -34,6 +36,6 @@ int open(const char *p, int flags, ...) {
 __attribute__((destructor)) static void tell(void) {
   char line[32];
   int file = syscall(SYS_open, getenv("FAIL_CALLS"), O_WRONLY | O_CREAT | O_TRUNC, 0644);
-  syscall(SYS_write, file, line, snprintf(line, sizeof line, "%ld", calls));
+  syscall(SYS_write, file, line, snprintf(line, sizeof line, "%ld", atomic_load(&calls)));
 }
 void _exit(int status) { tell(); for (;;) syscall(SYS_exit_group, status); }

@@ -5,6 +5,8 @@
 #[cfg(test)]
 mod disk;
 #[cfg(test)]
+mod flushes;
+#[cfg(test)]
 mod folder;
 #[cfg(test)]
 mod meeting;

@@ -7,6 +7,7 @@ use Rattle.ept_real.specs.Joined.{joined}
 use Rattle.ept_real.specs.Paths.{store_folder}
 use Rattle.ept_real.specs.declared.real_disk.RealDisk.{RealDisk}
 use Rattle.ept_real.specs.declared.store.RealStore.{RealStore}
+use Rattle.ept_real.specs.declared.threaded_disk.ThreadedDisk.{ThreadedDisk}
 use Rattle.ept_real.specs.declared.read_store.ReadStore.{ReadStore}
 use Rattle.ept_real.specs.declared.real_files.RealFiles.{RealFiles}
 
@@ -16,6 +17,9 @@ machine_files _ = None
 
 abbrev pub disk_files : {R F D : Type 0} → RealDisk R F D → Option Files
 disk_files _ = None
+
+abbrev pub threaded_files : {P : Type 0} → ThreadedDisk P → Option Files
+threaded_files _ = None
 
 -- the machine's files
 abbrev pub read_disk : {D : Type 0} → ReadStore D → D

@@ -22,6 +22,7 @@ mod shelf;
 mod sink;
 mod source;
 mod store;
+mod threaded_disk;
 mod unsynced;
 
 pub use link::RealLink;
@@ -37,3 +38,4 @@ pub use shelf::RealShelf;
 pub use sink::RealSink;
 pub use source::RealSource;
 pub use store::RealStore;
+pub use threaded_disk::ThreadedDisk;

@@ -4,7 +4,7 @@ ghost use Rattle.ept_base.specs.Files.{Files, SameBut, Puts, Removes, Tells, Ste
 use ept_base::{Failed, GetError};
 use std::alloc::Global;
 
-/// The files of a machine, by their paths, to be read, written and removed.
+/// The files of a machine, by their paths, to be read, written, removed and flushed.
 pub trait PathDisk {
     /// The bytes under each path, if they are visible.
     ghost files: { Self → Option Files };
@@ -24,4 +24,9 @@ pub trait PathDisk {
     fn remove(&mut self, path: &str) -> Result<(), Failed>
         ensures ok { OnOk result (StepsBy (Removes path.now) (files self.old) (files self.new)) }
         ensures alone { StepsBy (SameBut path.now) (files self.old) (files self.new) };
+
+    /// Flushes the file of each of these paths, and returns once all are flushed. After a refusal any of them may be
+    /// flushed or not.
+    fn flush(&mut self, alloc: Global, paths: &[String]) -> Result<(), Failed>
+        ensures same { files self.new ≡ files self.old };
 }

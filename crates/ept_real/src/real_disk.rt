@@ -10,11 +10,12 @@ use std::io::{self, ErrorKind, Write};
 use std::path::Path;
 use std::rt::Files;
 
-/// The files of the machine that the program runs on. A file that can't be read, written or removed is a fault, and so
-/// is a path below a file. A missing file is no fault.
+/// The files of the machine that the program runs on, which are flushed one after another. A file that can't be read,
+/// written, removed or flushed is a fault, and so is a path below a file. A missing file is no fault, unless it is to be
+/// flushed.
 #[derive(Drop)]
 pub struct RealDisk<'a, R: Files> {
-    machine: &'a R,
+    pub(crate) machine: &'a R,
 }
 
 impl<'a, R: Files> RealDisk<'a, R> {
@@ -72,6 +73,11 @@ pub(crate) fn remove_file(files: &impl Files, path: &str) -> io::Result<()> {
     }
 }
 
+/// Flushes a file: its bytes, and what is needed to read them.
+pub(crate) fn flush_file(files: &impl Files, path: &str) -> io::Result<()> {
+    fs::open(files, path)?.sync_data()
+}
+
 impl<'a, R: Files> PathDisk for RealDisk<'a, R> {
     ghost use Rattle.ept_real.specs.ReadOnly.{disk_files};
 
@@ -94,5 +100,12 @@ impl<'a, R: Files> PathDisk for RealDisk<'a, R> {
 
     fn remove(&mut self, path: &str) -> Result<(), Failed> {
         remove_file(self.machine, path).map_err(|_| Failed)
+    }
+
+    fn flush(&mut self, _alloc: Global, paths: &[String]) -> Result<(), Failed> {
+        for path in paths {
+            flush_file(self.machine, path.as_str()).map_err(|_| Failed)?;
+        }
+        Ok(())
     }
 }

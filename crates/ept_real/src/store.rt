@@ -9,18 +9,22 @@ use crate::path_disk::PathDisk;
 use crate::path_set::PathSet;
 use crate::paths::{or_here, path_in};
 use crate::real_disk::RealDisk;
+use crate::seen_files::SeenFiles;
+use crate::threaded_disk::ThreadedDisk;
 use crate::unsynced::Unsynced;
 use ept_base::{Failed, GetError, PutError, Store};
 use std::alloc::{AllocError, Global};
 use std::path::Path;
 use std::rt::Files;
+use std::thread::Threads;
 
 /// A folder of the machine, which is made if it is missing. A name is a path below it.
 ///
 /// `sync` flushes the files that were put, and those that were got and that this store has not flushed yet. Another
-/// program may have written the latter, and been stopped before it flushed them. The folders on the way to each name
-/// that was put, got or removed are flushed as well. These are the folders below the store's folder, the store's
-/// folder, the one that it is in, and any above that had to be made. So each of these folders must be readable.
+/// program may have written the latter, and been stopped before it flushed them. Its disk flushes them, one after another
+/// or in several threads. After all files, the folders on the way to each name that was put, got or removed are flushed,
+/// one after another. These are the folders below the store's folder, the store's folder, the one that it is in, and any
+/// above that had to be made. So each of these folders must be readable.
 ///
 /// After a refused `sync` each later one is refused. The system reports a lost write only once, and may then act as if
 /// nothing had been lost.
@@ -56,6 +60,30 @@ impl<'a, R: Files> RealStore<'a, R, RealDisk<'a, R>> {
         ensures open { sync_refused result ≡ false }
     {
         RealStore::over(alloc, files, RealDisk::new(files), folder)
+    }
+}
+
+impl<'a, P: Threads + Sync> RealStore<'a, SeenFiles<HostRuntime>, ThreadedDisk<'a, P>> {
+    ghost use Rattle.ept_real.specs.Counts.{store_faults, store_gets};
+    ghost use Rattle.ept_real.specs.Flushing.{flushed, IsFlushed, sync_refused};
+    ghost use Rattle.ept_real.specs.Joined.{folder_path};
+    ghost use Rattle.ept_real.specs.Paths.{store_folder};
+
+    /// The same store, whose files are flushed by threads that this handle may start.
+    pub fn with_threads(
+        alloc: Global,
+        files: &'a SeenFiles<HostRuntime>,
+        threads: &P,
+        folder: &'a str,
+    ) -> Self
+        ensures sound { store_faults result ≡ 0 }
+        ensures unread { store_gets result ≡ 0 }
+        ensures folder { store_folder result ≡ folder_path folder.now }
+        ensures to_flush { IsFlushed result }
+        ensures flushed { flushed result ≡ [] }
+        ensures open { sync_refused result ≡ false }
+    {
+        RealStore::over(alloc, files, ThreadedDisk::new(files, threads), folder)
     }
 }
 
@@ -223,6 +251,18 @@ impl<'a, R: Files, D: PathDisk + Drop> RealStore<'a, R, D> {
             }
         }
     }
+
+    /// Flushes the files that are to be flushed, and after all of them the folders.
+    fn flush(&mut self) -> Result<(), Failed>
+        ensures files { D.files (store_disk self.new) ≡ D.files (store_disk self.old) }
+        ensures same { self.new ≡ record self.old { disk = store_disk self.new } }
+    {
+        let Ok(paths) = self.unsynced.file_paths(self.folder) else {
+            return Err(Failed);
+        };
+        self.disk.flush(self.alloc, paths.as_slice())?;
+        self.unsynced.flush_folders(self.files)
+    }
 }
 
 impl<'a, R: Files, D: PathDisk + Drop> Store for RealStore<'a, R, D> {
@@ -371,7 +411,7 @@ impl<'a, R: Files, D: PathDisk + Drop> Store for RealStore<'a, R, D> {
         ensures open { OnOk result (sync_refused self.new ≡ false) }
         ensures folder { store_folder self.new ≡ store_folder self.old }
     {
-        if self.refused || self.unsynced.flush(self.files, self.folder).is_err() {
+        if self.refused || self.flush().is_err() {
             self.refused = true;
             self.fault();
             return Err(PutError::Failed);

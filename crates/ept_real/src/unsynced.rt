@@ -1,11 +1,11 @@
-ghost use Rattle.std.specs.Prelude.{◌≡◌, ℕ, List, [], Contains, OnOk};
+ghost use Rattle.std.specs.Prelude.{◌≡◌, ℕ, List, [], Contains, IfOk, OnOk, map, string_bytes};
 ghost use Rattle.ept_real.specs.Joined.{joined};
 ghost use Rattle.ept_real.specs.Ways.{Keeps, IsAbove, IsHolder, IsOnWay};
 
 use crate::path_set::PathSet;
 use crate::paths::{or_here, path_in};
+use ept_base::Failed;
 use std::alloc::{AllocError, Global};
-use std::collections::BTreeSet;
 use std::fs::{self, OpenFile};
 use std::io::{self, ErrorKind};
 use std::path::Path;
@@ -85,27 +85,24 @@ impl Unsynced {
         Ok(())
     }
 
-    /// Flushes all of it; the names are of files in this folder.
-    pub(crate) fn flush(&self, files: &impl Files, folder: &str) -> io::Result<()> {
+    /// The paths of the names, which are of files in this folder.
+    pub(crate) fn file_paths(&self, folder: &str) -> Result<Vec<String>, AllocError>
+        ensures { IfOk result (λ paths. map string_bytes paths.items ≡ map (joined folder.now) self.now.names) }
+    {
+        let mut paths = Vec::new(self.alloc);
         for name in self.names.paths() {
-            let path = path_in(self.alloc, folder, name.as_str())?;
-            flush_file(files, path.as_str())?;
+            paths.push(path_in(self.alloc, folder, name.as_str())?)?;
         }
-        flush_folders(files, self.folders.paths())
+        Ok(paths)
     }
-}
 
-/// Flushes a file: its bytes, and what is needed to read them.
-fn flush_file(files: &impl Files, path: &str) -> io::Result<()> {
-    fs::open(files, path)?.sync_data()
-}
-
-/// Flushes the entries of each of these folders.
-fn flush_folders(files: &impl Files, paths: &BTreeSet<String>) -> io::Result<()> {
-    for path in paths {
-        flush_folder(files, path.as_str())?;
+    /// Flushes the entries of the folders, one after another.
+    pub(crate) fn flush_folders(&self, files: &impl Files) -> Result<(), Failed> {
+        for path in self.folders.paths() {
+            flush_folder(files, path.as_str()).map_err(|_| Failed)?;
+        }
+        Ok(())
     }
-    Ok(())
 }
 
 /// Flushes the entries of a folder. A folder that is not there has none.

@@ -110,7 +110,8 @@ fn run_over<'a, R: Threads + Wait + Sync>(
     ExitCode::from(ended.status)
 }
 
-// Runs the words over the folder that they name. Words that name none have a store in memory.
+// Runs the words over the folder that they name, whose files are flushed by threads. Words that name none have a store
+// in memory.
 fn start<'a, H: Shelf, O: Sink, R: Threads + Wait + Sync>(
     rt: &R,
     disk: &'a HostRuntime,
@@ -128,7 +129,7 @@ where
         let mut store = MemStore::new(alloc, Vec::new(alloc), Vec::new(alloc));
         return start_in(rt, disk, words, shelf, &mut store, out);
     }
-    let mut store = RealStore::new(alloc, files, folder);
+    let mut store = RealStore::with_threads(alloc, files, rt, folder);
     start_in(rt, disk, words, shelf, &mut store, out)
 }
 
