@@ -1,0 +1,9 @@
+use Rattle.std.proofs.Common.{◌≢◌}
+use Rattle.ept_point.specs.declared.layout.Layout.TheVariants.{New}
+use Rattle.ept_save.proofs.LoadedLines.{damaged-told}
+use Rattle.ept_save.proofs.TileBytes.{bytes-told, length-told}
+use Rattle.ept_save.proofs.loading.read_bytes.Goals as goal
+
+pub returns-clause-bytes : goal.returns-clause-bytes
+returns-clause-bytes g c =
+    bytes-told (g.T.Store.files c.args.store.now) c.args.name.now c.in_ok-get.field-0 c.get.new.into.items c.get.new.into.items c.if-not-branch.false refl c.in_ok-get.ensures.ok
