@@ -33,7 +33,7 @@ other-number has_length rules line bytes other points reads =
     inr (inl (points, reads, λ same. other (ap length reads.0 ∙ (has_length New points ∙ ap (λ (n : ℕ). packed_width * n) same))))
 
 -- a file was read, and has these bytes
-pub bytes-told : (files : Option Files) (name : List ℕ) (found : Bool) (bytes read : List ℕ) → found ≡ true → read ≡ bytes → Tells (λ all. Gets all name found bytes) files → Tells (λ all. all name ≡ Some read) files
+pub bytes-told : (files : Option Files) (name : List ℕ) (found : Bool) (bytes read : List ℕ) → found ≡ true → read ≡ bytes → Tells (λ all. Gets all name found bytes) files → Tells (λ (all : Files). all name ≡ Some read) files
 bytes-told None name found bytes read there same gets = tt
 bytes-told (Some all) name found bytes read there same gets =
     subst (λ (b : Bool). all name ≡ cond b (Some bytes) None) there gets.0 ∙ ap (λ (w : List ℕ). Some w) (sym same)
@@ -61,7 +61,7 @@ module _ (current : Current) (key : VoxelKey) (at : Letter × Checkpoint) (line 
   of-told fact (Some all) has = of-line current key at line (λ c l. fact c l all) is found has
 
   -- the bytes are the tile of the points that the file is the tile of
-  pub bytes-tile : layout_of at.1.version ≡ New → (bytes : List ℕ) (files : Option Files) → Tells (λ all. all (tile_of_line line) ≡ Some bytes) files → (points : List Point) → Tells (λ all. HasTile current key points all → bytes ≡ tile points) files
+  pub bytes-tile : layout_of at.1.version ≡ New → (bytes : List ℕ) (files : Option Files) → Tells (λ (all : Files). all (tile_of_line line) ≡ Some bytes) files → (points : List Point) → Tells (λ all. HasTile current key points all → bytes ≡ tile points) files
   bytes-tile newest bytes None has points = tt
   bytes-tile newest bytes (Some all) has points = λ tiles.
       let its : HasTileUnder (layout_of at.1.version) (tile_of_line line) points all = at-line current key at line (λ c l. HasTileUnder (layout_of c.version) (tile_of_line l) points all) is found tiles in
@@ -82,10 +82,10 @@ module _ (current : Current) (key : VoxelKey) (at : Letter × Checkpoint) (line 
   only-key (Err e) only = subst (λ (k : VoxelKey). (e ≡ TileDamaged k) ⊎ IsStores e) (line-key at.1.nodes key line found) only
 
   -- and comes where the file has another length
-  pub other-comes : {T : Type 0} (bytes_in : T → List ℕ) (result : Result T SaveError) (files : Option Files) (all : Files) → IfOk result (λ t. Tells (λ f. f (tile_of_line line) ≡ Some (bytes_in t)) files) → IfOk result (λ t. length (bytes_in t) ≡ packed_width * line.count) → IfErr result (λ e. (e ≡ TileDamaged key) ⊎ IsStores e) → files ≡ Some all
+  pub other-comes : {T : Type 0} (bytes_in : T → List ℕ) (result : Result T SaveError) (files : Option Files) (all : Files) → IfOk result (λ t. Tells (λ (f : Files). f (tile_of_line line) ≡ Some (bytes_in t)) files) → IfOk result (λ t. length (bytes_in t) ≡ packed_width * line.count) → IfErr result (λ e. (e ≡ TileDamaged key) ⊎ IsStores e) → files ≡ Some all
       → IsOfOtherLength current key all → (result ≡ Err (TileDamaged key)) ⊎ (result ≡ Err StoreFault) ⊎ (result ≡ Err Memory)
   other-comes bytes_in (Ok t) files all has measure only told other =
-      absurd (not_other (bytes_in t) all (subst (λ (o : Option Files). Tells (λ f. f (tile_of_line line) ≡ Some (bytes_in t)) o) told has) measure other)
+      absurd (not_other (bytes_in t) all (subst (λ (o : Option Files). Tells (λ (f : Files). f (tile_of_line line) ≡ Some (bytes_in t)) o) told has) measure other)
   other-comes bytes_in (Err e) files all has measure only told other = elim only [
     | inl tile_is ↦ inl (ap Err tile_is)
     | inr (inl fault) ↦ inr (inl (ap Err fault))

@@ -367,7 +367,7 @@ fn bytes_of_line<T: Store>(
     store: &mut T,
     line: &NodeLine,
 ) -> Result<Vec<u8>, SaveError>
-    ensures bytes { IfOk result (λ bytes. Tells (λ all. all (tile_of_line line.now) ≡ Some bytes.items) (T.files store.old)) }
+    ensures bytes { IfOk result (λ bytes. Tells (λ (all : Files). all (tile_of_line line.now) ≡ Some bytes.items) (T.files store.old)) }
     ensures length { IfOk result (λ bytes. length bytes.items ≡ packed_width * line.now.count) }
     ensures refused { result ≡ Err (SaveError.TileDamaged line.now.key) → (rules : Rules)
         → Tells (IsDamagedUnder New rules (tile_of_line line.now) line.now) (T.files store.old) }
@@ -389,7 +389,7 @@ fn read_bytes<T: Store>(
     name: &str,
     line: &NodeLine,
 ) -> Result<Vec<u8>, SaveError>
-    ensures bytes { IfOk result (λ bytes. Tells (λ all. all name.now ≡ Some bytes.items) (T.files store.old)) }
+    ensures bytes { IfOk result (λ bytes. Tells (λ (all : Files). all name.now ≡ Some bytes.items) (T.files store.old)) }
     ensures length { IfOk result (λ bytes. length bytes.items ≡ packed_width * line.now.count) }
     ensures refused { result ≡ Err (SaveError.TileDamaged line.now.key) → (rules : Rules)
         → Tells (IsDamagedUnder New rules name.now line.now) (T.files store.old) }

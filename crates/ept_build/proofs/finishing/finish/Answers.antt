@@ -1,4 +1,4 @@
-use Rattle.std.proofs.Common.{rules, ◌≡◌, ◌∙◌, List, sym, ap, subst}
+use Rattle.std.proofs.Common.{rules, ◌≡◌, ◌∙◌, inl, List, sym, ap, subst}
 use Rattle.std.specs.Prelude.{Err}
 use Rattle.ept_base.specs.Files.{StepsBy}
 use Rattle.ept_sample.specs.Nodes.{sampled}
@@ -12,9 +12,10 @@ use Rattle.ept_publish.specs.declared.error.PublishError.{PublishError}
 use Rattle.ept_publish.specs.Publishing.{PutsAll}
 use Rattle.ept_plan.specs.Plans.{inserted_by}
 use Rattle.ept_build.specs.Errors.{of_publish, of_put}
+use Rattle.ept_build.specs.Phases.{IsEndFault}
 use Rattle.ept_build.proofs.Causes.{publish-tile, publish-undamaged, publish-end, if-refused}
 use Rattle.ept_build.proofs.Damage.{put-no-tile}
-use Rattle.ept_build.proofs.Judging.{err-one}
+use Rattle.ept_build.proofs.Judging.{err-one, put-store}
 use Rattle.ept_build.proofs.PhaseSound.{way-sound}
 use Rattle.ept_build.proofs.Ending.{the-checkpoint, files-same, named, put-moves, put-guarded, put-damage, end-moves, ends-complete}
 use Rattle.ept_build.proofs.finishing.finish.Goals as goal
@@ -106,3 +107,17 @@ pub returns-in_err-open_done-clause-undamaged : goal.returns-in_err-open_done-cl
 returns-in_err-open_done-clause-undamaged g c = λ shelf points output way key is.
     let its : c.from_residual-in_err-open_done.result ≡ Err (of_put c.in_err-open_done.field-0.0) = search rules in
     put-no-tile c.in_err-open_done.field-0.0 key (err-one (sym its ∙ is))
+
+-- ---- which causes there are
+
+pub returns-in_err-publish-clause-only : goal.returns-in_err-publish-clause-only
+returns-in_err-publish-clause-only g c =
+    let e = c.in_err-publish.field-0.0 in
+    let its : c.from_residual.result ≡ Err (of_publish e) = search rules in
+    if-refused IsEndFault c.from_residual.result (of_publish e) its (publish-end e)
+
+pub returns-in_err-open_done-clause-only : goal.returns-in_err-open_done-clause-only
+returns-in_err-open_done-clause-only g c =
+    let e = c.in_err-open_done.field-0.0 in
+    let its : c.from_residual-in_err-open_done.result ≡ Err (of_put e) = search rules in
+    if-refused IsEndFault c.from_residual-in_err-open_done.result (of_put e) its (inl (put-store e))

@@ -32,27 +32,27 @@ returns-clause-puts g c = λ start tiles told names.
 
 pub returns-in_err-put_files-clause-damaged : goal.returns-in_err-put_files-clause-damaged
 returns-in_err-put_files-clause-damaged g c = λ key told.
-    let out = c.from_residual-in_err-put_files.result in
+    let out = c.from_residual.result in
     let is : out ≡ Err c.in_err-put_files.field-0.0 = search rules in
     c.put_files.ensures.damaged key (one-refusal c.put_files.result out c.in_err-put_files.field-0.0 (TileDamaged key) c.in_err-put_files.was is told)
 
 pub returns-in_err-put_files-clause-only : goal.returns-in_err-put_files-clause-only
 returns-in_err-put_files-clause-only g c =
-    let out = c.from_residual-in_err-put_files.result in
+    let out = c.from_residual.result in
     let is : out ≡ Err c.in_err-put_files.field-0.0 = search rules in
     tile-only c.args.saved.now.current (g.T.Store.files c.args.store.now) out
     (λ key told. c.put_files.ensures.damaged key (one-refusal c.put_files.result out c.in_err-put_files.field-0.0 (TileDamaged key) c.in_err-put_files.was is told))
 
 pub returns-in_err-put_files-clause-undamaged : goal.returns-in_err-put_files-clause-undamaged
 returns-in_err-put_files-clause-undamaged g c = λ all read none.
-    let out = c.from_residual-in_err-put_files.result in
+    let out = c.from_residual.result in
     let is : out ≡ Err c.in_err-put_files.field-0.0 = search rules in
     undamaged-stores c.args.saved.now.current (g.T.Store.files c.args.store.now) out
     (λ key told. c.put_files.ensures.damaged key (one-refusal c.put_files.result out c.in_err-put_files.field-0.0 (TileDamaged key) c.in_err-put_files.was is told)) all read none
 
 pub returns-in_err-put_files-clause-sound : goal.returns-in_err-put_files-clause-sound
 returns-in_err-put_files-clause-sound g c = λ shelf all read sound has.
-    let out = c.from_residual-in_err-put_files.result in
+    let out = c.from_residual.result in
     let is : out ≡ Err c.in_err-put_files.field-0.0 = search rules in
     no-tile-stores out (λ key told. c.put_files.ensures.sound shelf all read sound has key (one-refusal c.put_files.result out c.in_err-put_files.field-0.0 (TileDamaged key) c.in_err-put_files.was is told))
 

@@ -88,13 +88,13 @@ returns-clause-puts g c = λ start tiles told names.
 
 pub returns-in_err-nodes-clause-damaged : goal.returns-in_err-nodes-clause-damaged
 returns-in_err-nodes-clause-damaged g c = λ key told.
-    let out = c.from_residual-in_err-nodes.result in
+    let out = c.from_residual.result in
     let is : out ≡ Err c.in_err-nodes.field-0.0 = search rules in
     c.put_tiles.ensures.damaged key (one-refusal c.put_tiles.result out c.in_err-nodes.field-0.0 (TileDamaged key) c.in_err-nodes.was is told)
 
 pub returns-in_err-nodes-clause-sound : goal.returns-in_err-nodes-clause-sound
 returns-in_err-nodes-clause-sound g c = λ shelf start read sound has key told.
-    let out = c.from_residual-in_err-nodes.result in
+    let out = c.from_residual.result in
     let is : out ≡ Err c.in_err-nodes.field-0.0 = search rules in
     c.put_tiles.ensures.sound shelf start read sound has key (one-refusal c.put_tiles.result out c.in_err-nodes.field-0.0 (TileDamaged key) c.in_err-nodes.was is told)
 

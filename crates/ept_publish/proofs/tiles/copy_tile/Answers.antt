@@ -14,8 +14,8 @@ returns-in_err-bytes-clause-any_moment g c =
 
 pub returns-in_err-bytes-clause-damaged : goal.returns-in_err-bytes-clause-damaged
 returns-in_err-bytes-clause-damaged g c = λ other told.
-    let is : c.from_residual-in_err-bytes.result ≡ Err c.in_err-bytes.field-0.0 = search rules in
-    c.saved_bytes.ensures.damaged other (one-refusal c.saved_bytes.result c.from_residual-in_err-bytes.result c.in_err-bytes.field-0.0 (TileDamaged other) c.in_err-bytes.was is told)
+    let is : c.from_residual.result ≡ Err c.in_err-bytes.field-0.0 = search rules in
+    c.saved_bytes.ensures.damaged other (one-refusal c.saved_bytes.result c.from_residual.result c.in_err-bytes.field-0.0 (TileDamaged other) c.in_err-bytes.was is told)
 
 pub returns-in_err-put_tile-clause-any_moment : goal.returns-in_err-put_tile-clause-any_moment
 returns-in_err-put_tile-clause-any_moment g c =

@@ -1,4 +1,4 @@
-use Rattle.std.proofs.Common.{◌≢◌}
+use Rattle.std.proofs.Common.{refl}
 use Rattle.ept_point.specs.declared.layout.Layout.TheVariants.{New}
 use Rattle.ept_save.proofs.LoadedLines.{damaged-told}
 use Rattle.ept_save.proofs.TileBytes.{bytes-told, length-told}
