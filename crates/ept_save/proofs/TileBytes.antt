@@ -1,9 +1,11 @@
 -- The bytes of a tile of the current checkpoint, in the new layout, by their length alone.
 use Rattle.std.proofs.Common.{◌≡◌, ◌≢◌, ◌∙◌, ◌⊎◌, inl, inr, ℕ, ◌*◌, Bool, true, cond, List, length, Option, Some, None, refl, sym, ap, subst}
-use Rattle.std.specs.Prelude.{Result, Ok, Err, IfOk, IfErr}
+use Rattle.std.specs.Prelude.{Result, Ok, Err, IfOk, IfErr, OnOk}
 use Rattle.ept_base.specs.Files.{Files, Tells}
 use Rattle.ept_base.specs.Devices.{Gets}
 use Rattle.ept_point.specs.declared.point.Point.{Point}
+use Rattle.ept_point.specs.declared.tile.TileError.{TileError}
+use Rattle.ept_point.specs.declared.tile.TileError.TheVariants.{Memory as OutOfMemory}
 use Rattle.ept_point.specs.declared.layout.Layout.{Layout}
 use Rattle.ept_point.specs.declared.layout.Layout.TheVariants.{New}
 use Rattle.ept_point.specs.Dimensions.{packed_width}
@@ -31,6 +33,11 @@ use Rattle.ept_save.proofs.LoadedLines.{line-key, of-line, at-line}
 pub other-number : EachTileHasLength → (rules : Rules) (line : NodeLine) (bytes : List ℕ) → length bytes ≢ packed_width * line.count → (points : List Point) → ReadsIn New bytes (Ok points) → IsWrong New rules line bytes
 other-number has_length rules line bytes other points reads =
     inr (inl (points, reads, λ same. other (ap length reads.0 ∙ (has_length New points ∙ ap (λ (n : ℕ). packed_width * n) same))))
+
+-- bytes of another length that were read, without running out of memory
+pub wrong-read : EachTileHasLength → (rules : Rules) (line : NodeLine) (bytes : List ℕ) → length bytes ≢ packed_width * line.count → {U : Type 0} (P : List Point → Type 0) (read : Result U TileError) → OnOk read ((points : List Point) × ReadsIn New bytes (Ok points) × P points) → IfErr read (λ e. e ≢ OutOfMemory → ReadsIn New bytes (Err e)) → read ≢ Err OutOfMemory → IsWrong New rules line bytes
+wrong-read has_length rules line bytes other P (Ok u) ok fault not_memory = other-number has_length rules line bytes other ok.0 ok.1
+wrong-read has_length rules line bytes other P (Err e) ok fault not_memory = inl (e, fault (λ same. not_memory (ap Err same)))
 
 -- a file was read, and has these bytes
 pub bytes-told : (files : Option Files) (name : List ℕ) (found : Bool) (bytes read : List ℕ) → found ≡ true → read ≡ bytes → Tells (λ all. Gets all name found bytes) files → Tells (λ (all : Files). all name ≡ Some read) files
