@@ -1,5 +1,5 @@
 -- Only names of these files change, at every moment.
-use Rattle.std.proofs.Common.{◌≡◌, ◌∙◌, ℕ, ◌<◌, List, length, get_or, [], ◌∷◌, ◌++◌, map, sym, subst, Option}
+use Rattle.std.proofs.Common.{◌≡◌, ◌∙◌, ℕ, ◌<◌, List, length, get_or, [], ◌∷◌, ◌++◌, map, refl, sym, subst, Option}
 use Rattle.std.specs.Prelude.{Contains}
 use Rattle.std.proofs.lemmas.List.Elements.{Contains-append_left, Contains-append_right}
 use Rattle.ept_base.specs.Files.{Files, SameFiles, SameBut, StepsBy}
