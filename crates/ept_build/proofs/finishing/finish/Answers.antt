@@ -11,11 +11,11 @@ use Rattle.ept_save.proofs.TileFiles.{new-layout}
 use Rattle.ept_publish.specs.declared.error.PublishError.{PublishError}
 use Rattle.ept_publish.specs.Publishing.{PutsAll}
 use Rattle.ept_plan.specs.Plans.{inserted_by}
-use Rattle.ept_build.specs.Errors.{of_publish, of_put}
+use Rattle.ept_build.specs.Errors.{of_publish, of_save}
 use Rattle.ept_build.specs.Phases.{IsEndFault}
-use Rattle.ept_build.proofs.Causes.{publish-tile, publish-undamaged, publish-end, if-refused}
-use Rattle.ept_build.proofs.Damage.{put-no-tile}
-use Rattle.ept_build.proofs.Judging.{err-one, put-store}
+use Rattle.ept_build.proofs.Causes.{stores-undamaged, publish-tile, publish-undamaged, publish-end, if-refused}
+use Rattle.ept_build.proofs.Judging.{err-one}
+use Rattle.ept_build.proofs.Renewed.{save-stores}
 use Rattle.ept_build.proofs.PhaseSound.{way-sound}
 use Rattle.ept_build.proofs.Ending.{the-checkpoint, files-same, named, put-moves, put-guarded, put-damage, end-moves, ends-complete}
 use Rattle.ept_build.proofs.finishing.finish.Goals as goal
@@ -100,13 +100,13 @@ returns-in_err-publish-clause-undamaged g c = λ shelf points output way key is.
 
 pub returns-in_err-open_done-clause-damaged : goal.returns-in_err-open_done-clause-damaged
 returns-in_err-open_done-clause-damaged g c = λ key is stands.
-    let its : c.from_residual-in_err-open_done.result ≡ Err (of_put c.in_err-open_done.field-0.0) = search rules in
-    absurd (put-no-tile c.in_err-open_done.field-0.0 key (err-one (sym its ∙ is)))
+    let its : c.from_residual-in_err-open_done.result ≡ Err (of_save c.in_err-open_done.field-0.0) = search rules in
+    absurd (stores-undamaged c.in_err-open_done.field-0.0 key c.in_err-open_done.ensures.only (err-one (sym its ∙ is)))
 
 pub returns-in_err-open_done-clause-undamaged : goal.returns-in_err-open_done-clause-undamaged
 returns-in_err-open_done-clause-undamaged g c = λ shelf points output way key is.
-    let its : c.from_residual-in_err-open_done.result ≡ Err (of_put c.in_err-open_done.field-0.0) = search rules in
-    put-no-tile c.in_err-open_done.field-0.0 key (err-one (sym its ∙ is))
+    let its : c.from_residual-in_err-open_done.result ≡ Err (of_save c.in_err-open_done.field-0.0) = search rules in
+    stores-undamaged c.in_err-open_done.field-0.0 key c.in_err-open_done.ensures.only (err-one (sym its ∙ is))
 
 -- ---- which causes there are
 
@@ -119,5 +119,5 @@ returns-in_err-publish-clause-only g c =
 pub returns-in_err-open_done-clause-only : goal.returns-in_err-open_done-clause-only
 returns-in_err-open_done-clause-only g c =
     let e = c.in_err-open_done.field-0.0 in
-    let its : c.from_residual-in_err-open_done.result ≡ Err (of_put e) = search rules in
-    if-refused IsEndFault c.from_residual-in_err-open_done.result (of_put e) its (inl (put-store e))
+    let its : c.from_residual-in_err-open_done.result ≡ Err (of_save e) = search rules in
+    if-refused IsEndFault c.from_residual-in_err-open_done.result (of_save e) its (inl (save-stores e c.in_err-open_done.ensures.only))
