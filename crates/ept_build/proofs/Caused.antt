@@ -20,12 +20,12 @@ use Rattle.ept_octree_ckpt.specs.declared.error.PhaseError.TheVariants as phase
 use Rattle.ept_build.specs.declared.error.BuildError.{BuildError}
 use Rattle.ept_build.specs.declared.error.BuildError.TheVariants.{StoreFault, BadCheckpoint, TileDamaged, Differs, SourceFault, BadLas, OutOfBounds, TooManyPoints, NoBounds, SourceChanged, SpillFault, SpillDamaged, TooManyNodes, Memory}
 use Rattle.ept_build.specs.Errors.{of_phase, of_save}
-use Rattle.ept_build.specs.Phases.{IsPhaseFault, IsStartFault, IsRenewFault, IsStoreFault}
+use Rattle.ept_build.specs.Phases.{IsPhaseFault, IsStartFault, IsRenewFault, IsStoreFault, IsEndFault}
 use Rattle.ept_build.specs.Starting.{FindsCause}
 use Rattle.ept_build.proofs.Causes.{phase-damaged, phase-many}
 use Rattle.ept_build.proofs.Damage.{same-damage, first-damage, store-no-tile}
 use Rattle.ept_build.proofs.Ended.{no-refusal}
-use Rattle.ept_build.proofs.Judging.{err-one, store-not-many}
+use Rattle.ept_build.proofs.Judging.{err-one, end-not-many}
 use Rattle.ept_build.proofs.Renewed.{save-stores}
 
 -- ---- which causes there are
@@ -55,10 +55,6 @@ renew-no-spill e (inl (inl fault)) is = let same : StoreFault ≡ SpillFault = s
 renew-no-spill e (inl (inr memory)) is = let same : Memory ≡ SpillFault = sym memory ∙ is in cc
 renew-no-spill e (inr tile) is = let same : TileDamaged tile.0 ≡ SpillFault = sym tile.1 ∙ is in cc
 
-renew-not-many : (e : BuildError) → IsRenewFault e → e ≡ TooManyNodes → ⊥
-renew-not-many e (inl store) is = store-not-many e store is
-renew-not-many e (inr tile) is = let same : TileDamaged tile.0 ≡ TooManyNodes = sym tile.1 ∙ is in cc
-
 pub start-phase : (e : BuildError) → IsStartFault e → IsPhaseFault e
 start-phase StoreFault only = tt
 start-phase (TileDamaged key) only = tt
@@ -74,6 +70,9 @@ start-phase (BadLas source fault) only = only
 start-phase (OutOfBounds source number) only = only
 start-phase (TooManyPoints source) only = only
 start-phase NoBounds only = only
+
+pub end-phase : (e : BuildError) → IsEndFault e → IsPhaseFault e
+end-phase e only = start-phase e (renew-start e only)
 
 -- ---- of the checkpoints of a store
 
@@ -116,9 +115,9 @@ module _ {D : Type 0} (files : D → Option Files) (may_leave : D → Files → 
   -- the checkpoint is not migrated, after a load that found no damage
   pub cause-renewed : (mid new : D) (now : View) (e : BuildError) → now ≡ view → IsRenewFault e → ((all : Files) → files mid ≡ Some all → HasNoDamage now.current all → IsStoreFault e) → Tells (HasNoDamage view.current) (files mid) → StepsBy (SameBut done_name) (files old) (files mid) → (StandsFor view (files old) (may_leave old) → StandsFor view (files mid) (may_leave mid)) → FindsCause files may_leave moment image_since view slots (Err e) old new
   cause-renewed mid new now e same only stored whole gate stands = record {
-    too_many = λ is. absurd (renew-not-many e only (err-one is));
-    intact = λ is. absurd (renew-not-many e only (err-one is));
-    untouched = λ is. absurd (renew-not-many e only (err-one is));
+    too_many = λ is. absurd (end-not-many e only (err-one is));
+    intact = λ is. absurd (end-not-many e only (err-one is));
+    untouched = λ is. absurd (end-not-many e only (err-one is));
     damaged = λ key is stood. absurd (none key (stands stood).all (stands stood).told (err-one is));
     first = λ key start told is. (
         let at = stepped (SameBut done_name) (files old) (files mid) start told gate in

@@ -1,5 +1,5 @@
 -- Which refusal of a layer below was reported.
-use Rattle.std.proofs.Common.{◌≡◌, ◌∙◌, inl, inr, ℕ, ◌<◌, List, get_or, sym, ap, subst, arith, Option, Some, None}
+use Rattle.std.proofs.Common.{◌≡◌, ◌∙◌, inl, inr, ℕ, ◌<◌, List, get_or, refl, sym, ap, subst, arith, Option, Some, None}
 use Rattle.std.specs.List.{Any}
 use Rattle.std.proofs.lemmas.List.Sums.{get_or-le-sum_by}
 use Rattle.std.specs.Prelude.{Result, Err, IfErr}
@@ -21,8 +21,10 @@ use Rattle.ept_octree_ckpt.specs.declared.error.PhaseError.TheVariants as phase
 use Rattle.ept_octree_ckpt.specs.Errors.{IsDevices}
 use Rattle.ept_publish.specs.declared.error.PublishError.{PublishError}
 use Rattle.ept_publish.specs.declared.error.PublishError.TheVariants as publish
+use Rattle.ept_publish.specs.Errors as reported
 use Rattle.ept_build.specs.declared.error.BuildError.TheVariants.{TileDamaged, SourceFault, SourceChanged, SpillFault, SpillDamaged, TooManyNodes}
 use Rattle.ept_build.specs.Errors.{of_read, of_insert, of_save, of_phase, of_publish}
+use Rattle.ept_build.specs.Phases.{IsEndFault}
 
 pub inserted-many : (e : InsertError) → of_insert e ≡ TooManyNodes → e ≡ insert.TooManyNodes
 inserted-many insert.SourceFault is = absurd (cc)
@@ -135,17 +137,19 @@ devices-undamaged phase.TooManyNodes key devices is = absurd devices
 devices-undamaged phase.SpillFault key devices is = cc
 devices-undamaged (phase.SpillDamaged a b d) key devices is = cc
 
-pub publish-spill : (e : PublishError) → of_publish e ≡ SpillFault → e ≡ publish.SpillFault
-publish-spill publish.StoreFault is = absurd (cc)
-publish-spill publish.SpillFault is = cc
-publish-spill (publish.SpillDamaged a b d) is = absurd (cc)
-publish-spill publish.Memory is = absurd (cc)
+pub publish-tile : (e : PublishError) (key : VoxelKey) → of_publish e ≡ TileDamaged key → e ≡ publish.TileDamaged key
+publish-tile publish.StoreFault key is = absurd (cc)
+publish-tile (publish.TileDamaged other) key is = cc
+publish-tile publish.Memory key is = absurd (cc)
 
-pub publish-damage : (e : PublishError) (kept found number : ℕ) → of_publish e ≡ SpillDamaged kept found number → e ≡ publish.SpillDamaged kept found number
-publish-damage publish.StoreFault kept found number is = absurd (cc)
-publish-damage publish.SpillFault kept found number is = absurd (cc)
-publish-damage (publish.SpillDamaged a b d) kept found number is = cc
-publish-damage publish.Memory kept found number is = absurd (cc)
+pub publish-undamaged : (e : PublishError) (key : VoxelKey) → reported.IsStores e → of_publish e ≡ TileDamaged key → ⊥
+publish-undamaged e key (inl fault) is = let told : of_publish publish.StoreFault ≡ TileDamaged key = sym (ap of_publish fault) ∙ is in cc
+publish-undamaged e key (inr memory) is = let told : of_publish publish.Memory ≡ TileDamaged key = sym (ap of_publish memory) ∙ is in cc
+
+pub publish-end : (e : PublishError) → IsEndFault (of_publish e)
+publish-end publish.StoreFault = inl (inl refl)
+publish-end (publish.TileDamaged key) = inr (key, refl)
+publish-end publish.Memory = inl (inr refl)
 
 -- what follows from a fact about visible contents holds of them too
 pub tells-more : {X : Type 0} (P Q : X → Type 0) → ((x : X) → P x → Q x) → (o : Option X) → Tells P o → Tells Q o

@@ -33,7 +33,7 @@ use Rattle.ept_plan.specs.declared.error.PlanError.{PlanError}
 use Rattle.ept_plan.specs.declared.error.PlanError.TheVariants as plan
 use Rattle.ept_build.specs.Errors.{of_save, of_scan, of_plan, of_put}
 use Rattle.ept_build.specs.Building.{TellsDamage, Fails}
-use Rattle.ept_build.specs.Phases.{HasDamage, IsStartFault, IsRoomFault, IsStoreFault, IsEndFault}
+use Rattle.ept_build.specs.Phases.{HasDamage, IsStartFault, IsRoomFault, IsStoreFault}
 
 -- a tile is damaged as before
 pub damaged-same : (current : Current) (key : VoxelKey) (old new : Files) → SameFiles old new → IsDamaged current key new → IsDamaged current key old
@@ -169,11 +169,6 @@ put-no-tile put.Memory key is = cc
 pub store-no-tile : (e : BuildError) (key : VoxelKey) → IsStoreFault e → e ≡ TileDamaged key → ⊥
 store-no-tile e key (inl fault) is = let same : StoreFault ≡ TileDamaged key = sym fault ∙ is in cc
 store-no-tile e key (inr memory) is = let same : Memory ≡ TileDamaged key = sym memory ∙ is in cc
-
-pub end-no-tile : (e : BuildError) (key : VoxelKey) → IsEndFault e → e ≡ TileDamaged key → ⊥
-end-no-tile e key (inl store) is = store-no-tile e key store is
-end-no-tile e key (inr (inl fault)) is = let same : SpillFault ≡ TileDamaged key = sym fault ∙ is in cc
-end-no-tile e key (inr (inr (kept, found, number, damage))) is = let same : SpillDamaged kept found number ≡ TileDamaged key = sym damage ∙ is in cc
 
 pub room-no-tile : (e : BuildError) (key : VoxelKey) → IsRoomFault e → e ≡ TileDamaged key → ⊥
 room-no-tile e key (inl fault) is = let same : SpillFault ≡ TileDamaged key = sym fault ∙ is in cc

@@ -1,11 +1,12 @@
 -- The end of a build: the output is put while the done gate is closed, and the gate is then opened.
-use Rattle.std.proofs.Common.{◌≡◌, ◌∙◌, inl, inr, ℕ, List, length, map, refl, sym, ap, subst, Option, Some, None}
+use Rattle.std.proofs.Common.{◌≡◌, ◌∙◌, inl, inr, ℕ, List, length, take, refl, sym, ap, subst, Option, Some, None}
 use Rattle.std.specs.Prelude.{All, Contains}
 use Rattle.std.specs.List.{AllZip}
 use Rattle.ept_base.specs.Files.{Files, StepsBy, Tells}
 use Rattle.ept_base.specs.Moves.{Moves}
 use Rattle.ept_point.specs.declared.point.Point.{Point}
 use Rattle.ept_space.specs.declared.bounds.Bounds.{Bounds}
+use Rattle.ept_space.specs.VoxelKey.{VoxelKey}
 use Rattle.ept_sample.specs.declared.tiles.Tile.{Tile}
 use Rattle.ept_sample.specs.Nodes.{sampled}
 use Rattle.ept_config.specs.declared.kept.Kept.{Kept}
@@ -16,29 +17,37 @@ use Rattle.ept_scan.specs.Scans.{in_order}
 use Rattle.ept_scan.specs.Opening.{IsKeptScan}
 use Rattle.ept_scan.proofs.OneScan.{scan_once}
 use Rattle.ept_ckpt.specs.declared.letter.Letter.{Letter}
+use Rattle.ept_ckpt.specs.declared.node_line.NodeLine.{NodeLine}
 use Rattle.ept_ckpt.specs.declared.checkpoint.Checkpoint.{Checkpoint}
-use Rattle.ept_table.specs.Octree.{Branch, tile_of, AreSampled}
 use Rattle.ept_meta.specs.Output.{File, IsOutput, IsOutputName, EachIsOutsideWork, AreCountsOf, rules_of, names_of, files_of, output}
 use Rattle.ept_meta.specs.OutputLaws.{OutputIsOne, FilesHaveOutputNames}
+use Rattle.ept_point.specs.declared.layout.Layout.{Layout}
 use Rattle.ept_point.specs.declared.layout.Layout.TheVariants.{New}
 use Rattle.ept_ckpt.specs.Versions.{layout_of}
 use Rattle.ept_save.specs.Names.{gate_name, body_name, done_name, IsSavedName}
-use Rattle.ept_save.specs.Current.{Current, HasCurrent}
+use Rattle.ept_save.specs.Current.{Current, HasCurrent, tile_of_line}
 use Rattle.ept_save.specs.Complete.{HasAllOf, IsComplete}
 use Rattle.ept_save.specs.Done.{IsDone, IsGuarded, Guards}
-use Rattle.ept_save.specs.Sound.{HasPointsOf}
+use Rattle.ept_save.specs.Loading.{HasLine, IsDamaged}
+use Rattle.ept_save.specs.Opening.{lines_of}
+use Rattle.ept_save.specs.Sound.{HasPointsOf, IsSavedAs}
 use Rattle.ept_save.specs.SoundLaws.{IsPublished, DoneIsComplete, GuardingKeepsSound, PuttingKeepsSound}
-use Rattle.ept_save.specs.View.{View}
+use Rattle.ept_save.specs.View.{View, StandsFor}
+use Rattle.ept_save.proofs.DamagedTiles.{damaged-before}
 use Rattle.ept_save.proofs.Keeping.{has_current-same}
 use Rattle.ept_save.proofs.NamesDiffer.{done-gate, done-body}
 use Rattle.ept_save.proofs.ScanCounts.{scan_each, scan_counted}
-use Rattle.ept_save.proofs.Standing.{stepped, in-images}
+use Rattle.ept_save.proofs.SoundFiles.{sound-at}
+use Rattle.ept_save.proofs.Standing.{stepped, in-images, told_some}
 use Rattle.ept_save.proofs.WorkNames.{outside-saved, outside-done}
+use Rattle.ept_publish.specs.Lines.{output_names, NamesTiles}
 use Rattle.ept_publish.specs.Publishing.{PutsAll, SameButThese}
 use Rattle.ept_publish.specs.PublishingLaws.{OutputIsThere}
+use Rattle.ept_publish.proofs.Copying.{counted-same, names-same, saved-stays}
 use Rattle.ept_plan.specs.declared.plan.Plan.{Plan}
 use Rattle.ept_plan.specs.Plans.{IsOf}
-use Rattle.ept_build.specs.Phases.{IsSoundUndone, IsSoundAt, AreOfShelf, IsOnWay}
+use Rattle.ept_build.specs.Phases.{IsSoundUndone, IsSoundAt, AreOfShelf, IsOnWay, HasDamage}
+use Rattle.ept_build.proofs.Fronts.{all-front}
 use Rattle.ept_build.proofs.Moved.{AllAre, all-images, all-after, moves-after, moves-then}
 use Rattle.ept_build.proofs.PhaseSound.{scan-of}
 
@@ -55,20 +64,21 @@ extent-of shelf plan points extent scan found = subst (λ (w : List Point). HasE
 all_at : {X : Type 0} (P : X → Type 0) (xs : List X) (x : X) → All P xs → Contains xs x → P x
 all_at P xs x every among = subst P among.2 (every among.0 x among.1)
 
-module _ (one_output : OutputIsOne) (have_names : FilesHaveOutputNames) (outside : EachIsOutsideWork) (there : OutputIsThere) (putting : PuttingKeepsSound) (guarding : GuardingKeepsSound) (shelf : Files) (plan : Plan) (points : List Point) (out : List File) (are : AreOfShelf shelf plan points out) (number : length points ≡ plan.points) (extent : Option Bounds) (has_extent : HasExtent points extent) (nodes : List Branch) (sampled_nodes : AreSampled (rules_of plan.kept) points nodes) (letter : Letter) (c : Checkpoint) (is_of : IsOf plan (Some (letter, c))) (all_in : c.inserted ≡ plan.points) (newest : layout_of c.version ≡ New) where
+module _ (one_output : OutputIsOne) (have_names : FilesHaveOutputNames) (outside : EachIsOutsideWork) (there : OutputIsThere) (putting : PuttingKeepsSound) (guarding : GuardingKeepsSound) (shelf : Files) (plan : Plan) (points : List Point) (out : List File) (are : AreOfShelf shelf plan points out) (number : length points ≡ plan.points) (extent : Option Bounds) (has_extent : HasExtent points extent) (letter : Letter) (c : Checkpoint) (is_of : IsOf plan (Some (letter, c))) (all_in : c.inserted ≡ plan.points) (newest : layout_of c.version ≡ New) where
   abbrev current : Current
   current = Some (letter, c)
 
+  abbrev pub tiles : List Tile
+  tiles = sampled (rules_of plan.kept) points
+
   abbrev pub put_files : List File
-  put_files = files_of plan.kept plan.counts extent plan.points (map tile_of nodes)
+  put_files = files_of plan.kept plan.counts extent plan.points tiles
 
   abbrev its_output : List File
   its_output = output plan.kept plan.counts extent points
 
   is_its : put_files ≡ its_output
-  is_its =
-      ap (λ (w : List Tile). files_of plan.kept plan.counts extent plan.points w) sampled_nodes.tiles
-      ∙ ap (λ (n : ℕ). files_of plan.kept plan.counts extent n (sampled (rules_of plan.kept) points)) (sym number)
+  is_its = ap (λ (n : ℕ). files_of plan.kept plan.counts extent n tiles) (sym number)
 
   its_is_output : IsOutput plan.kept points its_output
   its_is_output = record { counts = plan.counts; are_counts = counts-of shelf plan points are.scan; extent = extent; has_extent = has_extent; files_are = refl }
@@ -99,6 +109,16 @@ module _ (one_output : OutputIsOne) (have_names : FilesHaveOutputNames) (outside
   pub record Is (files : Files) : Type 0 where
     pub undone : IsSoundUndone shelf files
     pub has : HasCurrent current files
+
+  -- the checkpoint's lines name the tiles of the sampling
+  pub names-tiles : (files : Files) → Is files → NamesTiles files current tiles
+  names-tiles files is =
+      let its = sound-at shelf files current is.has is.undone.sound in
+      let same : its.0 ≡ points = scan_once shelf c.kept.scale (Some c.kept.bounds) c.kept.inputs 0 its.0 points _ _ its.1.scan scan in
+      let whole : take c.inserted its.0 ≡ points = ap (take c.inserted) same ∙ all-front points c.inserted (number ∙ sym all_in) in
+      subst (λ (k : Kept). AllZip (IsSavedAs New files) (sampled (rules_of k) points) c.nodes) is_of.0
+      (subst (λ (w : List Point). AllZip (IsSavedAs New files) (sampled (rules_of c.kept) w) c.nodes) whole
+      (subst (λ (w : Layout). AllZip (IsSavedAs w files) (sampled (rules_of c.kept) (take c.inserted its.0)) c.nodes) newest its.1.nodes))
 
   pub put-keeps : (old new : Files) → Is old → SameButThese (names_of put_files) old new → Is new
   put-keeps old new is named = record {
@@ -139,7 +159,16 @@ module _ (one_output : OutputIsOne) (have_names : FilesHaveOutputNames) (outside
       has = subst (λ (w : Current). HasCurrent w image) is_current ((in-images view (files zero) (may_leave zero) way.stands).current image may);
     })
 
-    module _ (one : D) (moved : Moves files may_leave moment image_since (SameButThese (names_of put_files)) zero one) where
+    -- so what is put is the output
+    pub named : NamesTiles way.stands.all view.current tiles
+    named = subst (λ (w : Current). NamesTiles way.stands.all w tiles) (sym is_current) (names-tiles way.stands.all (told_some Is (files zero) way.stands.all way.stands.told all_zero.read))
+
+    module _ (one : D) (changes : Moves files may_leave moment image_since (SameButThese (output_names plan.kept (lines_of view.current))) zero one) where
+      abbrev moved : Moves files may_leave moment image_since (SameButThese (names_of put_files)) zero one
+      moved =
+          subst (λ (w : List (List ℕ)). Moves files may_leave moment image_since (SameButThese w) zero one)
+          (sym (names-same plan.kept plan.counts extent plan.points tiles (lines_of view.current) (counted-same way.stands.all tiles (lines_of view.current) named))) changes
+
       abbrev pub all_one : AllAre files may_leave moment image_since Is one
       all_one = all-after files may_leave moment image_since Is (SameButThese (names_of put_files)) zero one Is put-keeps all_zero moved
 
@@ -190,5 +219,23 @@ the-checkpoint plan None is = absurd is
 the-checkpoint plan (Some (letter, c)) is = (letter, c, refl, is)
 
 -- the files that are put, by what they are made of
-pub files-same : (plan : Plan) (extent : Option Bounds) (counts : List SourceCount) (nodes : List Branch) → counts ≡ plan.counts → files_of plan.kept counts extent plan.points (map tile_of nodes) ≡ files_of plan.kept plan.counts extent plan.points (map tile_of nodes)
-files-same plan extent counts nodes same = ap (λ (w : List SourceCount). files_of plan.kept w extent plan.points (map tile_of nodes)) same
+pub files-same : (plan : Plan) (extent : Option Bounds) (counts : List SourceCount) (tiles : List Tile) → counts ≡ plan.counts → files_of plan.kept counts extent plan.points tiles ≡ files_of plan.kept plan.counts extent plan.points tiles
+files-same plan extent counts tiles same = ap (λ (w : List SourceCount). files_of plan.kept w extent plan.points tiles) same
+
+-- ---- a tile that is reported
+
+-- what is put leaves the current checkpoint and its tiles, so a tile that was damaged is so
+pub put-damage : EachIsOutsideWork → (kept : Kept) (lines : List NodeLine) (view : View) (key : VoxelKey) (old new : Option Files) {may : Files → Type 0} → StandsFor view old may → StepsBy (SameButThese (output_names kept lines)) old new → HasLine view.current key → Tells (IsDamaged view.current key) old → HasDamage view.current key new
+put-damage outside kept lines view key old None stands moved line damaged = (line, tt)
+put-damage outside kept lines view key None (Some b) stands moved line damaged = absurd moved
+put-damage outside kept lines view key (Some a) (Some b) stands moved line damaged =
+    let stays : (name : List ℕ) → IsSavedName name → b name ≡ a name = saved-stays outside kept lines a b moved in (
+      line,
+      (
+        has_current-same view.current a b (λ l. stays (gate_name l) (inl (l, refl))) (λ l. stays (body_name l) (inr (inl (l, refl)))) (subst (HasCurrent view.current) (some-one (sym stands.told)) stands.has_current),
+        damaged-before view.current key b a (λ found is. sym (stays (tile_of_line found) (inr (inr (found.letter, found.key, refl))))) damaged,
+      ),
+    )
+  where
+    some-one : {x y : Files} → Some x ≡ Some y → x ≡ y
+    some-one is = cc

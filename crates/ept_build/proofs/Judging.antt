@@ -6,6 +6,7 @@ use Rattle.ept_base.specs.Files.{Files, Tells}
 use Rattle.ept_base.specs.declared.errors.PutError.{PutError}
 use Rattle.ept_base.specs.declared.errors.PutError.TheVariants as put
 use Rattle.ept_point.specs.declared.point.Point.{Point}
+use Rattle.ept_space.specs.VoxelKey.{VoxelKey}
 use Rattle.ept_config.specs.declared.config.Config.{Config}
 use Rattle.ept_config.specs.declared.kept.Kept.{Kept}
 use Rattle.ept_scan.specs.declared.scan_error.ScanError.{ScanError}
@@ -81,11 +82,10 @@ pub store-refused : (all : Files) (config : Config) (current : Current) (e : Bui
 store-refused all config current e (inl fault) = subst (IsRefusedAt all config current) (sym fault) tt
 store-refused all config current e (inr memory) = subst (IsRefusedAt all config current) (sym memory) tt
 
--- nor does a fault of a spill file
-pub end-refused : (all : Files) (config : Config) (current : Current) (e : BuildError) → IsEndFault e → ((kept found number : ℕ) → e ≢ SpillDamaged kept found number) → IsRefusedAt all config current e
-end-refused all config current e (inl store) whole = store-refused all config current e store
-end-refused all config current e (inr (inl fault)) whole = subst (IsRefusedAt all config current) (sym fault) tt
-end-refused all config current e (inr (inr (kept, found, number, damage))) whole = absurd (whole kept found number damage)
+-- nor does one of the end, if no tile is reported
+pub end-refused : (all : Files) (config : Config) (current : Current) (e : BuildError) → IsEndFault e → ((key : VoxelKey) → e ≢ TileDamaged key) → IsRefusedAt all config current e
+end-refused all config current e (inl store) none = store-refused all config current e store
+end-refused all config current e (inr tile) none = absurd (none tile.0 tile.1)
 
 -- nor does a fault of the room
 pub room-refused : (all : Files) (config : Config) (current : Current) (e : BuildError) → IsRoomFault e → IsRefusedAt all config current e
@@ -219,8 +219,7 @@ store-not-many e (inr memory) is = let same : Memory ≡ TooManyNodes = sym memo
 
 pub end-not-many : (e : BuildError) → IsEndFault e → e ≡ TooManyNodes → ⊥
 end-not-many e (inl store) is = store-not-many e store is
-end-not-many e (inr (inl fault)) is = let same : SpillFault ≡ TooManyNodes = sym fault ∙ is in cc
-end-not-many e (inr (inr (kept, found, number, damage))) is = let same : SpillDamaged kept found number ≡ TooManyNodes = sym damage ∙ is in cc
+end-not-many e (inr tile) is = let same : TileDamaged tile.0 ≡ TooManyNodes = sym tile.1 ∙ is in cc
 
 pub room-not-many : (e : BuildError) → IsRoomFault e → e ≡ TooManyNodes → ⊥
 room-not-many e (inl fault) is = let same : SpillFault ≡ TooManyNodes = sym fault ∙ is in cc
@@ -232,5 +231,4 @@ store-no-source e (inr memory) is = let same : Memory ≡ SourceFault = sym memo
 
 pub end-no-source : (e : BuildError) → IsEndFault e → e ≡ SourceFault → ⊥
 end-no-source e (inl store) is = store-no-source e store is
-end-no-source e (inr (inl fault)) is = let same : SpillFault ≡ SourceFault = sym fault ∙ is in cc
-end-no-source e (inr (inr (kept, found, number, damage))) is = let same : SpillDamaged kept found number ≡ SourceFault = sym damage ∙ is in cc
+end-no-source e (inr tile) is = let same : TileDamaged tile.0 ≡ SourceFault = sym tile.1 ∙ is in cc

@@ -1,5 +1,5 @@
 -- Why what is left of a build is refused.
-use Rattle.std.proofs.Common.{◌≡◌, ◌≢◌, inl, inr, ℕ, refl, sym, subst}
+use Rattle.std.proofs.Common.{◌≡◌, ◌≢◌, ℕ, refl}
 use Rattle.ept_base.specs.Files.{Files}
 use Rattle.ept_space.specs.VoxelKey.{VoxelKey}
 use Rattle.ept_config.specs.declared.config.Config.{Config}
@@ -7,7 +7,7 @@ use Rattle.ept_save.specs.Current.{Current}
 use Rattle.ept_build.specs.declared.error.BuildError.{BuildError}
 use Rattle.ept_build.specs.declared.error.BuildError.TheVariants.{StoreFault, BadCheckpoint, TileDamaged, Differs, SourceFault, BadLas, OutOfBounds, TooManyPoints, NoBounds, SourceChanged, SpillFault, SpillDamaged, TooManyNodes, Memory}
 use Rattle.ept_build.specs.Building.{HasTooManyNodes, IsRefusedAt}
-use Rattle.ept_build.specs.Phases.{IsPhaseFault, IsStartFault, IsStoreFault, IsEndFault}
+use Rattle.ept_build.specs.Phases.{IsPhaseFault, IsStartFault}
 
 module _ (all : Files) (config : Config) (current : Current) where
   pub phase-refused : (e : BuildError) → IsPhaseFault e → ((key : VoxelKey) → e ≢ TileDamaged key) → ((source number : ℕ) → e ≢ SourceChanged source number) → ((kept found number : ℕ) → e ≢ SpillDamaged kept found number) → (e ≡ TooManyNodes → HasTooManyNodes all config current) → IsRefusedAt all config current e
@@ -42,14 +42,3 @@ module _ (all : Files) (config : Config) (current : Current) where
   start-refused (OutOfBounds source number) only none many = absurd only
   start-refused (TooManyPoints source) only none many = absurd only
   start-refused NoBounds only none many = absurd only
-
--- a fault of the store is one of these causes
-store-phase : (e : BuildError) → IsStoreFault e → IsPhaseFault e
-store-phase e (inl fault) = subst IsPhaseFault (sym fault) tt
-store-phase e (inr memory) = subst IsPhaseFault (sym memory) tt
-
--- and so is one of the end
-pub end-phase : (e : BuildError) → IsEndFault e → IsPhaseFault e
-end-phase e (inl store) = store-phase e store
-end-phase e (inr (inl fault)) = subst IsPhaseFault (sym fault) tt
-end-phase e (inr (inr (kept, found, number, damage))) = subst IsPhaseFault (sym damage) tt

@@ -57,8 +57,7 @@ of_phase (phase.SpillDamaged kept found at) = SpillDamaged kept found at
 
 abbrev pub of_publish : PublishError → BuildError
 of_publish publish.StoreFault = StoreFault
-of_publish publish.SpillFault = SpillFault
-of_publish (publish.SpillDamaged kept found at) = SpillDamaged kept found at
+of_publish (publish.TileDamaged key) = TileDamaged key
 of_publish publish.Memory = Memory
 
 abbrev pub of_put : PutError → BuildError

@@ -239,6 +239,6 @@ IsStoreFault e = (e ≡ StoreFault) ⊎ (e ≡ Memory)
 abbrev pub IsRenewFault : BuildError → Type 0
 IsRenewFault e = IsStoreFault e ⊎ ((key : VoxelKey) × (e ≡ TileDamaged key))
 
--- a fault of the store, a spill file that does not return the points of its node, or out of memory
+-- so it is with the end: the files of the output are copies of the tiles
 abbrev pub IsEndFault : BuildError → Type 0
-IsEndFault e = IsStoreFault e ⊎ (e ≡ SpillFault) ⊎ ((kept : ℕ) × (found : ℕ) × (at : ℕ) × (e ≡ SpillDamaged kept found at))
+IsEndFault e = IsRenewFault e

@@ -248,7 +248,7 @@ where
         return (at.into_forest(), Err(refused));
     }
     match grow(crew, alloc, shelf, store, at, plan, config.checkpoint) {
-        Ok(mut end) => match finish(alloc, store, &mut end, plan, &extent) {
+        Ok(end) => match finish(alloc, store, &end.saved, plan, &extent) {
             Ok(()) => {
                 let summary = Summary {
                     points: plan.points,

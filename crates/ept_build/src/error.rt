@@ -193,10 +193,7 @@ impl From<PublishError> for BuildError {
     fn from(error: PublishError) -> BuildError {
         match error {
             PublishError::StoreFault => BuildError::StoreFault,
-            PublishError::SpillFault => BuildError::SpillFault,
-            PublishError::SpillDamaged { kept, found, at } => {
-                BuildError::SpillDamaged { kept, found, at }
-            }
+            PublishError::TileDamaged { key } => BuildError::TileDamaged { key },
             PublishError::Memory => BuildError::Memory,
         }
     }

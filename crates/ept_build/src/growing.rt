@@ -85,6 +85,8 @@ where
     ensures reached { IsTelling F.held → StandsFor at.saved (T.files store.old) (T.may_leave store.old)
         → Moves T.files T.may_leave T.moment T.image_since
         (λ (a b : Files). HasGone at.saved.current plan.now.kept step plan.now.points b) store.old store.new }
+    ensures stands_after { IfOk result (λ end. StandsFor at.saved (T.files store.old) (T.may_leave store.old)
+        → StandsFor end.saved (T.files store.new) (T.may_leave store.new)) }
 
     // If the contents of the devices and spill files are visible, the octree is then that of all points. Meanwhile each
     // image is sound.
@@ -196,6 +198,8 @@ where
     ensures reached { IsTelling F.held → StandsFor at.saved (T.files store.old) (T.may_leave store.old)
         → Moves T.files T.may_leave T.moment T.image_since
         (λ (a b : Files). HasGone at.saved.current plan.now.kept step plan.now.points b) store.old store.new }
+    ensures stands_after { IfOk result (λ r. StandsFor at.saved (T.files store.old) (T.may_leave store.old)
+        → StandsFor r.0.saved (T.files store.new) (T.may_leave store.new)) }
     ensures sampled { IfOk result (λ r. (points : List Point) → CanBeSampled (rules_of plan.now.kept) points
         → length points ≡ plan.now.points → HasInserted F.held S.whole plan.now points at.inserted reader at.octree
         → AreSampled (rules_of plan.now.kept) points (nodes_of F.held r.0.octree)) }

@@ -15,8 +15,8 @@ pub enum PhaseError {
     /// The spill file of a node failed: its count of faults rose. Nodes go to their files as an octree is loaded, and are read
     /// there as it is saved.
     SpillFault,
-    /// The spill file of a node gave back other bytes than those of the node's tile, told as by
-    /// [`NodeError::SpillDamaged`](ept_node::NodeError).
+    /// The spill file of a node returned other bytes than those of the node's tile, as
+    /// [`NodeError::SpillDamaged`](ept_node::NodeError) states.
     SpillDamaged { kept: u64, found: u64, at: u64 },
 }
 

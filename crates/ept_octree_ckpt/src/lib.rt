@@ -1,4 +1,4 @@
-//! One phase of a build: the octree that a checkpoint tells of, and an octree as the next checkpoint.
+//! One phase of a build: the octree that a checkpoint describes, and an octree as the next checkpoint.
 #![tactic(auto)]
 
 mod error;

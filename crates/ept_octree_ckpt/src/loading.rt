@@ -35,14 +35,15 @@ use ept_save::{SaveError, Saved, load_tile, sound_steps_law};
 use ept_space::Key;
 use std::alloc::Global;
 
-/// Brings the nodes of the current checkpoint into an octree of no points, whose root is in memory, and links them;
-/// where there is no current checkpoint it stays that of no points. Of the store nothing is put; nodes past those that may be in
-/// memory go to their spill files.
+/// Brings the nodes of the current checkpoint into an octree of no points, whose root is in memory, and links them. If
+/// there is no current checkpoint, it stays that of no points. Nothing is put into the store. Nodes past those that may be
+/// in memory go to their spill files.
 ///
 /// # Errors
 ///
-/// The nodes are taken in key order, the slot of each before its tile is read: `TooManyNodes` at the first for which there
-/// is no slot, the refusals of [`load_tile`](ept_save::load_tile), and `SpillFault` where the spill file of a node fails.
+/// The nodes are taken in key order, the slot of each before its tile is read. `TooManyNodes` comes at the first for which
+/// there is no slot. Then there are the refusals of [`load_tile`](ept_save::load_tile), and `SpillFault` if the spill file
+/// of a node fails.
 /// The octree is of no use then.
 pub fn load_octree<T: Store, F: SpillFile>(
     alloc: Global,
@@ -63,18 +64,18 @@ pub fn load_octree<T: Store, F: SpillFile>(
     ensures agrees { AgreesWithFiles F.held F.faults F.keeps octree.new }
     ensures unbroken { OnOk result (IsUnbroken octree.new) }
 
-    // Whatever the store and the spill files tell, the lines tell of the nodes; where both tell, they name their tiles, in the
-    // layout of the checkpoint.
+    // Whatever the store and the spill files report, the lines describe the nodes. If both report their contents, the
+    // lines name their tiles, in the layout of the checkpoint.
     ensures told { OnOk result (OfCurrent saved.now.current
         (λ (c : c.Checkpoint). TellNodes (nodes_of F.held octree.new) c.nodes)) }
     ensures tiles { IsTelling F.held → OnOk result (OfCurrent saved.now.current
         (λ (c : c.Checkpoint). Tells (λ all. NameTiles (layout_of c.version) all (nodes_of F.held octree.new) c.nodes) (T.files store.old))) }
     ensures begun { saved.now.current ≡ None → OnOk result (nodes_of F.held octree.new ≡ nodes_of F.held octree.old) }
 
-    // At Ok each line has a slot, and no tile is damaged. A tile is reported as damaged only where, of the lines that
-    // have slots, its line is the first that names a damaged one, and `TooManyNodes` comes only where a line has no slot and
-    // none of those names one. So each of the three comes just there, but for faults and for want of memory. No tile of
-    // sound files is damaged. No spill file is read.
+    // On success each line has a slot, and no tile is damaged. A tile is reported as damaged only if its line is the first
+    // that names a damaged one, among those that have slots. `TooManyNodes` comes only if a line has no slot and none of
+    // those names a damaged tile. So each of the three comes just then, unless a device fails or memory runs out. No tile
+    // of sound files is damaged. No spill file is read.
     ensures few { OnOk result (length (lines_of saved.now.current) ≤ most_of octree.old) }
     ensures too_many { result ≡ Err PhaseError.TooManyNodes → (most_of octree.old < length (lines_of saved.now.current))
         × Tells (AreIntact saved.now.current (take (most_of octree.old) (lines_of saved.now.current))) (T.files store.old) }
@@ -90,7 +91,7 @@ pub fn load_octree<T: Store, F: SpillFile>(
         → HasCurrent saved.now.current all → (key : VoxelKey) → result ≢ Err (PhaseError.Save (save.TileDamaged key)) }
     ensures cause { HasCauseOf (PhaseError.Save save.StoreFault) (T.faults store.old) (T.faults store.new) result }
 
-    // What is read and every image are as before, and the store stands for what it stood for.
+    // What is read and every image are as before, and the store still matches what it matched.
     ensures images { SameImages (T.may_leave store.old) (T.may_leave store.new) }
     ensures any_moment { Moves T.files T.may_leave T.moment T.image_since SameFiles store.old store.new }
     ensures stands { (v : view.View) → StandsFor v (T.files store.old) (T.may_leave store.old)

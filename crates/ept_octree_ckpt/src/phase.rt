@@ -39,19 +39,17 @@ use ept_save::{Saved, begin, commit, sound_steps_law};
 use std::alloc::Global;
 
 /// Makes an octree the next checkpoint: begins it, saves the nodes that are not as the current checkpoint has
-/// them, and commits. The octree holds as many points as are `inserted`, and no node of the current checkpoint
-/// is gone. A node whose points are in its spill file is read there, and stays there.
+/// them, and commits. The octree holds `inserted` points, and no node of the current checkpoint is gone. A node whose points are in its spill file is read there, and stays there.
 ///
-/// A node is still if the current checkpoint tells of its open octants and number of points, and of those of each node
-/// below. Neither its points nor its tile are read then, and its line stays. A point that comes to an octree stays in
-/// the node where it arrives or below it, so none has come to a still node. Had one other points than its tile all
-/// the same, the next checkpoint would name that tile. So what is said of tiles holds where still nodes are the same.
+/// A node is still if the current checkpoint states its open octants and number of points, and those of each node below.
+/// Neither its points nor its tile are read then, and its line stays. A point that comes to an octree stays in the node
+/// where it arrives or below it. So no point has come to a still node. If a still node had other points than its tile all
+/// the same, the next checkpoint would name that tile. So what is promised of tiles holds if still nodes are the same.
 ///
 /// # Errors
 ///
-/// Those of [`save_node`](crate::save_node) and of [`commit`], and `SpillFault` and `SpillDamaged` where a spill file
-/// does not give back the points of its node. What is known of the checkpoints is then of no use: the store is to be
-/// opened anew.
+/// Those of [`save_node`](crate::save_node) and of [`commit`], and `SpillFault` and `SpillDamaged` if a spill file does
+/// not return the points of its node. What is known of the checkpoints is then of no use: open the store again.
 pub fn save_octree<T: Store, F: SpillFile>(
     alloc: Global,
     store: &mut T,
@@ -74,8 +72,8 @@ pub fn save_octree<T: Store, F: SpillFile>(
         (IsSaved saved.old saved.new kept.now counts.now inserted (nodes_of F.held octree.old)) }
     ensures refused { OnErr result (saved.new.current ≡ saved.old.current) }
 
-    // At Ok, where spill files tell and still nodes are the same, the checkpoint names the tiles of the octree's nodes.
-    // Where these are the nodes of some points' sampling, none of its tiles is damaged.
+    // On success, if spill files report their contents and still nodes are the same, the checkpoint names the tiles of the
+    // octree's nodes. If these are the nodes of some points' sampling, none of its tiles is damaged.
     ensures tiles { IsTelling F.held → (all : Files) → T.files store.old ≡ Some all
         → StillAreSame saved.old.current (nodes_of F.held octree.old) all
         → OnOk result (Tells (λ now. OfCurrent saved.new.current
@@ -86,22 +84,22 @@ pub fn save_octree<T: Store, F: SpillFile>(
         → AreSampled (meta.rules_of kept.now) points (nodes_of F.held octree.old)
         → OnOk result (Tells (HasNoDamage saved.new.current) (T.files store.new)) }
 
-    // Whatever the moment, the current checkpoint is kept with its tiles, or the next one is the current one. That one
-    // names the tiles of the octree's nodes, where still nodes are the same at the start.
+    // At every moment the current checkpoint is kept with its tiles, or the next one is the current one. That one names
+    // the tiles of the octree's nodes, if still nodes are the same at the start.
     ensures goes_on { IsTelling F.held → StandsFor saved.old (T.files store.old) (T.may_leave store.old)
         → Moves T.files T.may_leave T.moment T.image_since
         (GoesOn saved.old kept.now counts.now inserted (nodes_of F.held octree.old)) store.old store.new }
     ensures stands { OnOk result (StandsFor saved.old (T.files store.old) (T.may_leave store.old)
         → StandsFor saved.new (T.files store.new) (T.may_leave store.new)) }
 
-    // Of the tiles only those of nodes are put that the current checkpoint does not have as they are.
+    // Only tiles of nodes are put that the current checkpoint does not have as they are.
     ensures only_changed { IsTelling F.held → (stands : StandsFor saved.old (T.files store.old) (T.may_leave store.old))
         → Moves T.files T.may_leave T.moment T.image_since
         (SavesChanged saved.old.current (nodes_of F.held octree.old) stands.all) store.old store.new }
     ensures settled { OnOk result (IsSettled (T.files store.new) (T.may_leave store.new)) }
 
-    // A tile is told as damaged only where the current checkpoint, which is kept, names it, and it is one. Where none
-    // is, it is refused only for the store itself or for a spill file; no tile of sound files is damaged.
+    // A tile is reported as damaged only if the current checkpoint, which is kept, names it, and it is damaged. If no tile
+    // is, the call is refused only for the store itself or for a spill file. No tile of sound files is damaged.
     ensures only { IfErr result IsSaveFault }
     ensures damaged { (key : VoxelKey) → result ≡ Err (PhaseError.Save (save.TileDamaged key))
         → StandsFor saved.old (T.files store.old) (T.may_leave store.old)
@@ -113,8 +111,8 @@ pub fn save_octree<T: Store, F: SpillFile>(
         → StandsFor saved.old (T.files store.old) (T.may_leave store.old) → IfErr result IsDevices }
     ensures cause { HasCauseOf (PhaseError.Save save.StoreFault) (T.faults store.old) (T.faults store.new) result }
 
-    // A spill file is told as failed only where one has. Where they tell, none of an unbroken octree of some points'
-    // sampling is told as damaged.
+    // A spill file is reported as failed only if one has. If they report their contents, none of an unbroken octree of
+    // some points' sampling is reported as damaged.
     ensures spill { result ≡ Err PhaseError.SpillFault
         → 0 < trees.faults_of F.faults (trees.nodes_of (forest_of octree.new)) }
     ensures no_damage { (points : List p.Point) → CanBeSampled (meta.rules_of kept.now) points

@@ -36,9 +36,8 @@ use ept_save::{SaveError, Saved, load_tile, save_tile, sound_steps_law};
 use ept_space::Key;
 use std::alloc::Global;
 
-/// Saves a node for the next checkpoint: notes its line and puts its tile, unless the current checkpoint has the
-/// node as it is. Whether it has is found by the number of points and the open octants and, where these are
-/// equal, by the tile.
+/// Saves a node for the next checkpoint: notes its line and puts its tile, unless the current checkpoint has the node as
+/// it is. The number of points and the open octants are compared for that, and the tile if these are equal.
 ///
 /// # Errors
 ///
@@ -55,8 +54,8 @@ pub fn save_node<T: Store>(
     ensures node { OnOk result (SavesNode saved.old saved.new key mask points.now (T.files store.new)) }
     ensures unchanged { OnErr result (saved.new ≡ saved.old) }
 
-    // Nothing is put, or the current checkpoint does not have the node as it is. Whatever the moment, no name but a
-    // version of the tile changes, and the current checkpoint stays.
+    // Nothing is put, or the current checkpoint does not have the node as it is. At every moment only a version of the
+    // tile changes, and the current checkpoint stays.
     ensures puts { (all : Files) → T.files store.old ≡ Some all
         → Moves T.files T.may_leave T.moment T.image_since SameFiles store.old store.new
         ⊎ (¬ HasNode saved.old.current key mask points.now all × Moves T.files T.may_leave T.moment T.image_since
@@ -68,7 +67,7 @@ pub fn save_node<T: Store>(
     ensures stands { StandsFor saved.old (T.files store.old) (T.may_leave store.old)
         → StandsFor saved.new (T.files store.new) (T.may_leave store.new) }
 
-    // Where no tile that the current checkpoint names is damaged, it is refused only for the store itself. No tile of
+    // If no tile that the current checkpoint names is damaged, the call is refused only for the store itself. No tile of
     // sound files is damaged.
     ensures only { IfErr result (λ e. (e ≡ SaveError.TileDamaged key) ⊎ IsStores e) }
     ensures damaged { result ≡ Err (SaveError.TileDamaged key)

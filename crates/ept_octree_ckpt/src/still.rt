@@ -1,4 +1,4 @@
-//! Which nodes of an octree are as the current checkpoint tells of them, by their open octants and numbers of points.
+//! Which nodes of an octree are as the current checkpoint describes them, by their open octants and numbers of points.
 
 ghost use Rattle.std.specs.Prelude.{◌≡◌, ◌<◌, ◌||◌, ◌↔◌, IsTrue, true, false, map, IfOk, OnOk};
 ghost use Rattle.std.specs.BTreeSet.{contains};
@@ -18,7 +18,7 @@ use std::alloc::Global;
 use std::collections::BTreeSet;
 
 /// The keys that are not still. At or below each is a node whose open octants and number of points are not those that
-/// the current checkpoint tells of. `keys` are those of the nodes. No points are read.
+/// the current checkpoint states. `keys` are those of the nodes. No points are read.
 pub(crate) fn grown_keys<F: SpillFile>(
     alloc: Global,
     saved: &Saved,
@@ -45,7 +45,7 @@ pub(crate) fn grown_keys<F: SpillFile>(
     Ok(grown)
 }
 
-// Whether the current checkpoint tells of the node of a key with its open octants and its number of points.
+// Whether the current checkpoint states the open octants and the number of points of the node of a key.
 fn is_told<F: SpillFile>(saved: &Saved, octree: &mut Octree<F>, key: &Key) -> bool
     requires { HasKey (nodes_of F.held octree.old) key.now }
     ensures value { IfNodeAt (nodes_of F.held octree.old) key.now

@@ -4,7 +4,7 @@ use Rattle.std.specs.Prelude.{filter}
 use Rattle.ept_point.specs.declared.point.Point.{Point}
 use Rattle.ept_space.specs.declared.bounds.Bounds.{Bounds}
 use Rattle.ept_space.specs.declared.cube.Rules.{Rules}
-use Rattle.ept_space.specs.VoxelKey.{VoxelKey, IsKey, AreAscending}
+use Rattle.ept_space.specs.VoxelKey.{VoxelKey, IsKey}
 use Rattle.ept_sample.specs.declared.tiles.Tile.{Tile}
 use Rattle.ept_sample.specs.SamplingLaws.{CanBeSampled}
 use Rattle.ept_sample.specs.Nodes.{node_keys, tile_at, sampled}
@@ -17,8 +17,7 @@ use Rattle.ept_sample.proofs.NodeLaws.{IsMember-node_keys, IsRising-node_keys}
 use Rattle.ept_sample.proofs.SamplingLaws.{node-IsKey}
 use Rattle.ept_config.specs.declared.kept.Kept.{Kept}
 use Rattle.ept_config.specs.declared.source_count.SourceCount.{SourceCount}
-use Rattle.ept_hier.specs.Hierarchy.{Node, file_of, has_file, hierarchy, keys_of, KeysAscend}
-use Rattle.ept_table.specs.Octree as octree
+use Rattle.ept_hier.specs.Hierarchy.{Node, file_of, has_file, hierarchy}
 use Rattle.ept_meta.specs.declared.names.TheConstants.{METADATA, MANIFEST, BUILD_FILE}
 use Rattle.ept_meta.specs.EptText.{ept_text}
 use Rattle.ept_meta.specs.ManifestText.{manifest_text}
@@ -148,13 +147,3 @@ module _ (rules : Rules) (points : List Point) (can : CanBeSampled rules points)
               let at = member-map hierarchy_file x (hierarchy kept.step nodes) r in
               subst (λ (h : File). h.0 ≢ y.0) at.2 (among_texts (hierarchy_name at.0.key) (hierarchy-metadata at.0.key) (hierarchy-manifest at.0.key) (hierarchy-build at.0.key) y n))
         ])
-
--- ---- the keys of an octree's nodes ascend
-
-branch_keys : (nodes : List octree.Branch) → keys_of (map counted (map octree.tile_of nodes)) ≡ map octree.key_of nodes
-branch_keys [] = refl
-branch_keys (b ∷ bs) = ap (λ (w : List VoxelKey). b.0 ∷ w) (branch_keys bs)
-
-pub keys-ascend : (nodes : List octree.Branch) → AreAscending (map octree.key_of nodes) → KeysAscend (map counted (map octree.tile_of nodes))
-unfolding KeysAscend
-keys-ascend nodes ascend = subst (λ (w : List VoxelKey). AreAscending w) (sym (branch_keys nodes)) ascend

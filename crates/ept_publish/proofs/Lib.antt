@@ -1,4 +1,5 @@
 pub mod Putting
 mod Apart
 mod Naming
+pub mod Copying
 mod Refusing

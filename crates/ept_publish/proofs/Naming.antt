@@ -1,25 +1,18 @@
 -- Only names of these files change, at every moment.
 use Rattle.std.proofs.Common.{◌≡◌, ◌∙◌, ℕ, ◌<◌, List, length, get_or, [], ◌∷◌, ◌++◌, map, refl, sym, subst, Option}
 use Rattle.std.specs.Prelude.{Contains}
-use Rattle.std.proofs.lemmas.List.{map-append}
 use Rattle.std.proofs.lemmas.List.Elements.{Contains-append_left, Contains-append_right}
 use Rattle.ept_base.specs.Files.{Files, SameFiles, SameBut, StepsBy}
 use Rattle.ept_base.specs.Moves.{Follows, NoMore, Elapses, Moves}
 use Rattle.ept_base.proofs.Moving.{moves_once, moves_weaker, moves_both}
 use Rattle.ept_sample.specs.Members.{IsMember}
 use Rattle.ept_sample.proofs.Members.{IsMember-map, IsMember-contains, contains-IsMember}
-use Rattle.ept_space.specs.declared.bounds.Bounds.{Bounds}
-use Rattle.ept_space.specs.VoxelKey.{VoxelKey}
-use Rattle.ept_sample.specs.declared.tiles.Tile.{Tile}
 use Rattle.ept_config.specs.declared.kept.Kept.{Kept}
-use Rattle.ept_config.specs.declared.source_count.SourceCount.{SourceCount}
+use Rattle.ept_ckpt.specs.declared.node_line.NodeLine.{NodeLine}
 use Rattle.ept_hier.specs.declared.file.HierFile.{HierFile}
 use Rattle.ept_hier.specs.Hierarchy.{hierarchy}
-use Rattle.ept_table.specs.Octree.{Branch, tile_of}
-use Rattle.ept_meta.specs.EptText.{ept_text}
-use Rattle.ept_meta.specs.ManifestText.{manifest_text}
-use Rattle.ept_meta.specs.BuildText.{build_text}
-use Rattle.ept_meta.specs.Output.{File, tile_name, metadata_name, manifest_name, build_file_name, tile_file, hierarchy_file, counted, files_of, names_of}
+use Rattle.ept_meta.specs.Output.{File, tile_name, metadata_name, manifest_name, build_file_name, hierarchy_file, names_of}
+use Rattle.ept_publish.specs.Lines.{counted_by, named_by, output_names}
 use Rattle.ept_publish.specs.Publishing.{SameButThese}
 
 -- ---- names of files
@@ -28,42 +21,31 @@ use Rattle.ept_publish.specs.Publishing.{SameButThese}
 pub has-name : (f : File) (files : List File) → IsMember f files → Contains (names_of files) f.0
 has-name f files m = contains-IsMember f.0 (names_of files) (IsMember-map (λ (g : File). g.0) f files m)
 
-pub names-left : (xs ys : List File) (name : List ℕ) → Contains (names_of xs) name → Contains (names_of (xs ++ ys)) name
-names-left xs ys name has =
-    subst (λ (w : List (List ℕ)). Contains w name) (sym (map-append (λ (f : File). f.0) xs ys)) (Contains-append_left (names_of xs) (names_of ys) name has)
-
-pub names-right : (xs ys : List File) (name : List ℕ) → Contains (names_of ys) name → Contains (names_of (xs ++ ys)) name
-names-right xs ys name has =
-    subst (λ (w : List (List ℕ)). Contains w name) (sym (map-append (λ (f : File). f.0) xs ys)) (Contains-append_right (names_of xs) (names_of ys) name has)
-
--- a node has its tile among the files
-pub tile-named : (nodes : List Branch) (b : Branch) → IsMember b nodes → Contains (names_of (map tile_file (map tile_of nodes))) (tile_name b.0)
-tile-named nodes b m =
-    has-name (tile_file (tile_of b)) (map tile_file (map tile_of nodes)) (IsMember-map tile_file (tile_of b) (map tile_of nodes) (IsMember-map tile_of b nodes m))
-
 -- an item of a list has its file among the files
 pub file-named : {X : Type 0} (f : X → File) (xs : List X) (i : ℕ) (x : X) → i < length xs → x ≡ get_or xs i x → Contains (names_of (map f xs)) (f x).0
 file-named f xs i x low is = has-name (f x) (map f xs) (IsMember-map f x xs (IsMember-contains x xs (i, low, sym is)))
 
--- ---- the files of the output are in three parts
+-- ---- the names of the output are in three parts
 
-module _ (kept : Kept) (counts : List SourceCount) (extent : Option Bounds) (n : ℕ) (tiles : List Tile) where
-  abbrev its_hierarchy : List File
-  its_hierarchy = map hierarchy_file (hierarchy kept.step (map counted tiles))
+module _ (kept : Kept) (lines : List NodeLine) where
+  abbrev its_tiles : List (List ℕ)
+  its_tiles = map named_by lines
 
-  abbrev its_texts : List File
-  its_texts = (metadata_name, ept_text kept extent n) ∷ (manifest_name, manifest_text kept counts) ∷ (build_file_name, build_text kept) ∷ []
+  abbrev its_hierarchy : List (List ℕ)
+  its_hierarchy = names_of (map hierarchy_file (hierarchy kept.step (map counted_by lines)))
 
-  pub of-tiles : (name : List ℕ) → Contains (names_of (map tile_file tiles)) name → Contains (names_of (files_of kept counts extent n tiles)) name
-  of-tiles name has =
-      names-left (map tile_file tiles ++ its_hierarchy) its_texts name (names-left (map tile_file tiles) its_hierarchy name has)
+  abbrev its_texts : List (List ℕ)
+  its_texts = metadata_name ∷ manifest_name ∷ build_file_name ∷ []
 
-  pub of-hierarchy : (all : List HierFile) → all ≡ hierarchy kept.step (map counted tiles) → (name : List ℕ) → Contains (names_of (map hierarchy_file all)) name → Contains (names_of (files_of kept counts extent n tiles)) name
+  pub of-tiles : (name : List ℕ) → Contains its_tiles name → Contains (output_names kept lines) name
+  of-tiles name has = Contains-append_left (its_tiles ++ its_hierarchy) its_texts name (Contains-append_left its_tiles its_hierarchy name has)
+
+  pub of-hierarchy : (all : List HierFile) → all ≡ hierarchy kept.step (map counted_by lines) → (name : List ℕ) → Contains (names_of (map hierarchy_file all)) name → Contains (output_names kept lines) name
   of-hierarchy all is name has =
-      names-left (map tile_file tiles ++ its_hierarchy) its_texts name (names-right (map tile_file tiles) its_hierarchy name (subst (λ (w : List HierFile). Contains (names_of (map hierarchy_file w)) name) is has))
+      Contains-append_left (its_tiles ++ its_hierarchy) its_texts name (Contains-append_right its_tiles its_hierarchy name (subst (λ (w : List HierFile). Contains (names_of (map hierarchy_file w)) name) is has))
 
-  pub of-texts : (name : List ℕ) → Contains (metadata_name ∷ manifest_name ∷ build_file_name ∷ []) name → Contains (names_of (files_of kept counts extent n tiles)) name
-  of-texts name has = names-right (map tile_file tiles ++ its_hierarchy) its_texts name has
+  pub of-texts : (name : List ℕ) → Contains its_texts name → Contains (output_names kept lines) name
+  of-texts name has = Contains-append_right (its_tiles ++ its_hierarchy) its_texts name has
 
 -- ---- moves
 
@@ -80,11 +62,18 @@ module _ {D : Type 0} (files : D → Option Files) (may_leave : D → Files → 
   pub put-these : (name : List ℕ) (names : List (List ℕ)) → Contains names name → (old new : D) → Moves files may_leave moment image_since (SameBut name) old new → Moves files may_leave moment image_since (SameButThese names) old new
   put-these name names has = moves_weaker files may_leave moment image_since (SameBut name) (SameButThese names) (put_widens name names has)
 
-  -- so the tile of a node, where these are the tiles of the nodes
-  pub tile-these : (nodes : List Branch) (b : Branch) (key : VoxelKey) → IsMember b nodes → b.0 ≡ key → (old new : D) → Moves files may_leave moment image_since (SameBut (tile_name key)) old new → Moves files may_leave moment image_since (SameButThese (names_of (map tile_file (map tile_of nodes)))) old new
-  tile-these nodes b key m same =
-      let names : List (List ℕ) = names_of (map tile_file (map tile_of nodes)) in
-      put-these (tile_name key) names (subst (λ (k : VoxelKey). Contains names (tile_name k)) same (tile-named nodes b m))
+  -- so the tile of a line, among those of the lines
+  pub tile-these : (lines : List NodeLine) (line : NodeLine) → IsMember line lines → (old new : D) → Moves files may_leave moment image_since (SameBut (tile_name line.key)) old new → Moves files may_leave moment image_since (SameButThese (map named_by lines)) old new
+  tile-these lines line m =
+      put-these (tile_name line.key) (map named_by lines) (contains-IsMember (tile_name line.key) (map named_by lines) (IsMember-map named_by line lines m))
+
+  -- a put after what changes nothing
+  pub put-after : (name : List ℕ) (old mid new : D) → Moves files may_leave moment image_since SameFiles old mid → Moves files may_leave moment image_since (SameBut name) mid new → Moves files may_leave moment image_since (SameBut name) old new
+  put-after name =
+      moves_both files may_leave moment image_since SameFiles (SameBut name) (SameBut name) (λ a b c same but other apart. but other apart ∙ same other) (λ a b same other apart. same other)
+
+  pub same-but : (name : List ℕ) (old new : D) → Moves files may_leave moment image_since SameFiles old new → Moves files may_leave moment image_since (SameBut name) old new
+  same-but name = moves_weaker files may_leave moment image_since SameFiles (SameBut name) (λ a b same other apart. same other)
 
   module _ (names : List (List ℕ)) where
     -- one move, then another

@@ -7,8 +7,6 @@ use Rattle.ept_base.proofs.Moving.{steps_weaker, steps_both}
 use Rattle.ept_base.proofs.Changing.{changed_same, changed_other}
 use Rattle.ept_sample.specs.Members.{IsMember}
 use Rattle.ept_sample.proofs.Members.{All-members, all-member, IsMember-append, IsMember-map, contains-IsMember}
-use Rattle.ept_sample.specs.declared.tiles.Tile.{Tile}
-use Rattle.ept_table.specs.Octree.{Branch, tile_of}
 use Rattle.ept_meta.specs.Output.{File, names_of}
 use Rattle.ept_publish.specs.Publishing.{Gains, with_files, PutsAll, SameButThese}
 
@@ -43,21 +41,18 @@ puts-more files more name bytes is a b c first second =
     subst (λ (w : List File). StepsBy (PutsAll w) a c) (sym is) (puts-both files ((name, bytes) ∷ []) a b c first (puts-one name bytes b c second))
 
 -- the first items of a list, with one more
-pub taken-more : {X : Type 0} (f : X → File) (xs : List X) (i : ℕ) (x : X) → i < length xs → x ≡ get_or xs i x → map f (take (i + 1) xs) ≡ map f (take i xs) ++ f x ∷ []
+pub taken-more : {X Y : Type 0} (f : X → Y) (xs : List X) (i : ℕ) (x : X) → i < length xs → x ≡ get_or xs i x → map f (take (i + 1) xs) ≡ map f (take i xs) ++ f x ∷ []
 taken-more {X} f xs i x low is =
     let more : take (i + 1) xs ≡ take i xs ++ x ∷ [] = take_more xs i x low ∙ ap (λ (y : X). take i xs ++ y ∷ []) (sym is) in
     ap (map f) more ∙ map-append f (take i xs) (x ∷ [])
 
--- the tiles of the first nodes, with one more
-pub tiles-more : {X : Type 0} (f : Tile → X) (nodes : List Branch) (i : ℕ) (b : Branch) → i < length nodes → get_or nodes i b ≡ b → map f (map tile_of (take (i + 1) nodes)) ≡ map f (map tile_of (take i nodes)) ++ f (tile_of b) ∷ []
-tiles-more f nodes i b low is =
-    let more : take (i + 1) nodes ≡ take i nodes ++ b ∷ [] = take_more nodes i b low ∙ ap (λ (c : Branch). take i nodes ++ c ∷ []) is in
-    ap (λ (w : List Branch). map f (map tile_of w)) more
-    ∙ (ap (map f) (map-append tile_of (take i nodes) (b ∷ [])) ∙ map-append f (map tile_of (take i nodes)) (tile_of b ∷ []))
-
 -- what is read stays
 pub puts-kept : (xs : List File) (a b c : Option Files) → StepsBy (PutsAll xs) a b → StepsBy SameFiles b c → StepsBy (PutsAll xs) a c
 puts-kept xs a b c = steps_both (PutsAll xs) SameFiles (PutsAll xs) (λ f g h first same name. same name ∙ first name) a b c
+
+-- what is put reads the same before
+pub puts-then : (name bytes : List ℕ) (a b c : Option Files) → StepsBy SameFiles a b → StepsBy (Puts name bytes) b c → StepsBy (Puts name bytes) a c
+puts-then name bytes a b c same step = puts-more [] ((name, bytes) ∷ []) name bytes refl a b c (puts-none a b same) step
 
 -- ---- files of different names
 

@@ -1,8 +1,8 @@
 //! Why the output is not put.
 
 use ept_base::PutError;
-use ept_node::NodeError;
 use ept_point::Memory as OutOfMemory;
+use ept_space::Key;
 use std::alloc::{AllocError, AllocFailed};
 
 /// Why the files of the output are not all put.
@@ -10,11 +10,8 @@ use std::alloc::{AllocError, AllocFailed};
 pub enum PublishError {
     /// The store failed: its count of faults rose.
     StoreFault,
-    /// The spill file of a node failed: its count of faults rose.
-    SpillFault,
-    /// The spill file of a node gave back other bytes than those of the node's tile, told as by
-    /// [`NodeError::SpillDamaged`](ept_node::NodeError).
-    SpillDamaged { kept: u64, found: u64, at: u64 },
+    /// The tile that the current checkpoint names for this key is missing, or has another length.
+    TileDamaged { key: Key },
     /// Memory ran out.
     Memory,
 }
@@ -29,23 +26,6 @@ impl From<PutError> for PublishError {
         match error {
             PutError::Failed => PublishError::StoreFault,
             PutError::Memory => PublishError::Memory,
-        }
-    }
-}
-
-impl From<NodeError> for PublishError {
-    ghost use Rattle.std.specs.Prelude.{◌≡◌};
-    ghost use Rattle.ept_publish.specs.Errors.{of_node};
-
-    ghost from_gives = { λ error e. e ≡ of_node error };
-
-    fn from(error: NodeError) -> PublishError {
-        match error {
-            NodeError::SpillFault => PublishError::SpillFault,
-            NodeError::SpillDamaged { kept, found, at } => {
-                PublishError::SpillDamaged { kept, found, at }
-            }
-            NodeError::Memory => PublishError::Memory,
         }
     }
 }

@@ -2,8 +2,8 @@
 
 ghost use Rattle.ept_publish.specs.PublishingLaws.{OutputIsThere, OutputIsGained, OnlyTheseChange};
 
-/// Where points can be sampled, the files of their output have different names: so once these were put, one
-/// after another, each is there with its bytes. Of whichever files, no other name has changed.
+/// If points can be sampled, the files of their output have different names. So once these were put, one after another,
+/// each is there with its bytes. Whichever files were put, no other name has changed.
 pub fn published_law()
     ensures there { OutputIsThere }
     ensures gains { OutputIsGained }

@@ -1,5 +1,5 @@
-//! The files of the output, put into a store: the tile of each node, the hierarchy, the metadata, the manifest
-//! and the build file.
+//! The files of the output, put into a store: the tile of each node, the hierarchy, the metadata, the manifest and the
+//! build file. The nodes are those of the current checkpoint, whose tiles are copied.
 #![tactic(auto)]
 
 mod error;

@@ -1,4 +1,4 @@
-//! The files of the output that are no tiles, as texts; and those of them that stand once.
+//! The files of the output that are no tiles, as texts; and the three of them that each output has once.
 
 ghost use Rattle.std.specs.Prelude.{◌≡◌, ◌∷◌, [], IfOk, OnOk, length};
 ghost use Rattle.ept_base.specs.Causes.{HasCauseOf};

@@ -1,7 +1,11 @@
 -- Tiles of the current checkpoint, damaged or not, from files to files.
-use Rattle.std.proofs.Common.{◌≡◌, ◌∙◌, ◌⊎◌, inl, inr, List, sym, ap, refl, Option, Some, None}
-use Rattle.std.specs.Prelude.{Result, Ok, Err, IfErr, IsSomeAnd}
+use Rattle.std.proofs.Common.{◌≡◌, ◌∙◌, ◌⊎◌, inl, inr, List, sym, ap, subst, refl, Option, Some, None}
+use Rattle.std.specs.Prelude.{Result, Ok, Err, IfErr, IsSome, IsSomeAnd}
 use Rattle.ept_base.specs.Files.{Files, Tells}
+use Rattle.ept_point.specs.declared.layout.Layout.{Layout}
+use Rattle.ept_point.specs.declared.layout.Layout.TheVariants.{Old}
+use Rattle.ept_point.specs.declared.point.Point.{Point}
+use Rattle.ept_point.specs.Packed.{tile}
 use Rattle.ept_space.specs.VoxelKey.{VoxelKey, same_key}
 use Rattle.ept_sample.specs.Members.{IsMember}
 use Rattle.ept_ckpt.specs.declared.node_line.NodeLine.{NodeLine}
@@ -12,9 +16,12 @@ use Rattle.ept_save.specs.declared.error.SaveError.{SaveError}
 use Rattle.ept_save.specs.declared.error.SaveError.TheVariants.{StoreFault, TileDamaged, Memory}
 use Rattle.ept_save.specs.Current.{Current, IsNamed, tile_of_line}
 use Rattle.ept_save.specs.Errors.{IsStores}
-use Rattle.ept_save.specs.Loading.{current_line, IsDamaged, IsDamagedLine}
-use Rattle.ept_save.proofs.KeyLines.{member-at}
-use Rattle.ept_save.proofs.LoadedLines.{found_stands}
+use Rattle.ept_save.specs.Loading.{current_line, HasLine, HasTile, IsDamaged, IsDamagedLine}
+use Rattle.ept_save.specs.Opening.{lines_of}
+use Rattle.ept_save.specs.Tiles.{HasTileUnder, IsOfLayout}
+use Rattle.ept_save.proofs.KeyLines.{do-ascend, line-here, member-at}
+use Rattle.ept_save.proofs.LoadedLines.{found_stands, of-line}
+use Rattle.ept_save.proofs.TileFiles.{new-layout}
 
 -- ---- the tile of a line
 
@@ -82,3 +89,21 @@ one-tile {T} (Err e) key other (inl tile) is = (ap (λ (w : SaveError). Err w) t
     given : (◌≡◌ {A = Result T SaveError} (Err e) (Err (TileDamaged other))) → e ≡ TileDamaged other
     given both = cc
 one-tile {T} (Err e) key other (inr stores) is = absurd (stores-no-tile {T = T} (Err e) other stores is)
+
+-- ---- the lines of the current checkpoint
+
+-- each is that of its key
+pub line-found : (current : Current) (line : NodeLine) → IsMember line (lines_of current) → current_line current line.key ≡ Some line
+line-found None line m = absurd m
+line-found (Some (letter, c)) line m = line-here c.nodes line (do-ascend c.nodes c.is_checkpoint.nodes_are.octree.ascend) m
+
+-- so the current checkpoint has a line of that key
+pub line-there : (current : Current) (line : NodeLine) → IsMember line (lines_of current) → HasLine current line.key
+line-there current line m = subst (λ (o : Option NodeLine). IsSome o) (sym (line-found current line m)) refl
+
+-- and what its file has, is had of that key
+pub line-tile : (current : Current) (line : NodeLine) → IsMember line (lines_of current) → ¬ IsOfLayout Old current → (points : List Point) (files : Files) → files (tile_of_line line) ≡ Some (tile points) → HasTile current line.key points files
+line-tile None line m newest points files has = absurd m
+line-tile (Some (letter, c)) line m newest points files has =
+    of-line (Some (letter, c)) line.key (letter, c) line (λ d l. HasTileUnder (layout_of d.version) (tile_of_line l) points files) refl (line-found (Some (letter, c)) line m)
+    (subst (λ (w : Layout). HasTileUnder w (tile_of_line line) points files) (sym (new-layout letter c newest)) has)

@@ -11,6 +11,7 @@ mod Next
 mod Newer
 mod Guarding
 pub mod LoadedLines
+pub mod TileBytes
 pub mod DamagedTiles
 pub mod WorkNames
 pub mod SoundFiles

@@ -1,8 +1,9 @@
 -- Loading a node of the current checkpoint: what is found, and why its tile is damaged.
-use Rattle.std.specs.Prelude.{◌≡◌, ◌≢◌, ◌⊎◌, ℕ, List, ◌++◌, length, Option, Some, None, IsSome, IsSomeAnd, Ok, Err}
+use Rattle.std.specs.Prelude.{◌≡◌, ◌≢◌, ◌⊎◌, ℕ, ◌*◌, List, ◌++◌, length, Option, Some, None, IsSome, IsSomeAnd, Ok, Err}
 use Rattle.ept_base.specs.Files.{Files, Tells}
 use Rattle.ept_point.specs.declared.point.Point.{Point}
 use Rattle.ept_point.specs.declared.tile.TileError.{TileError}
+use Rattle.ept_point.specs.Dimensions.{packed_width}
 use Rattle.ept_point.specs.Order.{IsAscending}
 use Rattle.ept_point.specs.declared.layout.Layout.{Layout}
 use Rattle.ept_point.specs.Tile.{ReadsIn}
@@ -62,6 +63,14 @@ pub record AppendsFound (current : Current) (key : VoxelKey) (files : Option Fil
   pub are_found : AreFound current key points
   pub has_tile : Tells (HasTile current key points) files
 
+-- the file that the line names has these bytes
+abbrev pub HasBytes : Current → VoxelKey → List ℕ → Files → Type 0
+HasBytes current key bytes files = OfLine current key (λ c line. files (tile_of_line line) ≡ Some bytes)
+
+-- they are as many as the points that the line counts take in the new layout
+abbrev pub HasLength : Current → VoxelKey → List ℕ → Type 0
+HasLength current key bytes = OfLine current key (λ c line. length bytes ≡ packed_width * line.count)
+
 -- ---- why it is damaged
 
 -- The bytes are no tile of the layout, or one with another number of points, or its points are those of no node with this key and these open octants.
@@ -83,6 +92,15 @@ IsDamagedLine layout rules line files = IsDamagedUnder layout rules (tile_of_lin
 -- so it is with the line of the key, by the layout and the rules of the checkpoint
 abbrev pub IsDamaged : Current → VoxelKey → Files → Type 0
 IsDamaged current key files = OfLine current key (λ c line. IsDamagedLine (layout_of c.version) (rules_of c.kept) line files)
+
+-- the file of this name is missing, or has another length than the points that the line counts take in the new layout
+abbrev pub IsOfOtherLengthUnder : List ℕ → NodeLine → Files → Type 0
+IsOfOtherLengthUnder name line files =
+    (files name ≡ None) ⊎ ((bytes : List ℕ) × (files name ≡ Some bytes) × (length bytes ≢ packed_width * line.count))
+
+-- so it is with the file that the line of the key names
+abbrev pub IsOfOtherLength : Current → VoxelKey → Files → Type 0
+IsOfOtherLength current key files = OfLine current key (λ c line. IsOfOtherLengthUnder (tile_of_line line) line files)
 
 -- no tile that the current checkpoint names is damaged
 abbrev pub HasNoDamage : Current → Files → Type 0

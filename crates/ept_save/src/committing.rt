@@ -24,7 +24,7 @@ use ept_ckpt::{Checkpoint, Letter, write_ckpt};
 use ept_config::{Kept, SourceCount};
 use std::alloc::Global;
 
-/// Makes the next checkpoint the current one: puts its body, and opens its gate once the body is stable.
+/// Makes the next checkpoint the current one: puts its body, and opens its gate once the body is flushed.
 /// Its nodes are the saved lines, its version is the newest, and its generation is one more than that of the current one.
 pub fn commit<T: Store>(
     alloc: Global,
@@ -42,8 +42,8 @@ pub fn commit<T: Store>(
         × (saved.new ≡ record saved.old { current = Some (next_letter saved.old.current, next); begun = false })) }
     ensures unchanged { OnErr result (saved.new ≡ saved.old) }
 
-    // Whatever the moment, no name but that body and that gate changes, and the current checkpoint is the last
-    // one with its tiles, or the next one with the tiles that were read at the start.
+    // At every moment only that body and that gate change. The current checkpoint is the last one with its tiles, or the
+    // next one with the tiles that were read at the start.
     ensures names { Moves T.files T.may_leave T.moment T.image_since (λ (old : Files) (new : Files). (name : List ℕ)
         → name ≢ body_name (next_letter saved.old.current) → name ≢ gate_name (next_letter saved.old.current)
         → new name ≡ old name) store.old store.new }
@@ -122,7 +122,7 @@ fn put_checkpoint<T: Store>(
     Ok(())
 }
 
-// Puts the body of a checkpoint, and makes it stable.
+// Puts the body of a checkpoint, and flushes it.
 fn put_body<T: Store>(
     alloc: Global,
     store: &mut T,
@@ -142,7 +142,7 @@ fn put_body<T: Store>(
     Ok(())
 }
 
-// Opens the gate of a letter, and makes it stable.
+// Opens the gate of a letter, and flushes it.
 fn open_gate<T: Store>(store: &mut T, letter: Letter) -> Result<(), SaveError>
     ensures puts { OnOk result (StepsBy (Puts (gate_name letter) (1 ∷ []))
         (T.files store.old) (T.files store.new)) }

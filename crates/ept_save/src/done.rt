@@ -1,4 +1,4 @@
-//! The done gate: it is open only where the files of the output are whole.
+//! The done gate: it is open only if the files of the output are whole.
 
 ghost use Rattle.std.specs.Prelude.{◌≡◌, ◌↔◌, Some, IsTrue, IfOk, IfErr, OnOk};
 ghost use Rattle.ept_base.specs.Causes.{HasCauseOf};
@@ -32,8 +32,7 @@ pub fn is_done<T: Store>(alloc: Global, store: &mut T) -> Result<bool, SaveError
     is_open(alloc, store, DONE)
 }
 
-/// Closes the done gate: the byte 0 is put where it is open, and nothing where it is not; then what is read is
-/// made stable.
+/// Closes the done gate: puts the byte 0 if it is open, and nothing if it is not. Then it flushes what is read.
 pub fn close_done<T: Store>(alloc: Global, store: &mut T) -> Result<(), SaveError>
     ensures puts { OnOk result (StepsBy (Closes done_name) (T.files store.old) (T.files store.new)) }
     ensures closed { OnOk result (Tells (λ all. ¬ IsDone all) (T.files store.new)) }
@@ -52,7 +51,7 @@ pub fn close_done<T: Store>(alloc: Global, store: &mut T) -> Result<(), SaveErro
     Ok(())
 }
 
-/// Opens the done gate, once all that is read is stable, and makes it stable.
+/// Opens the done gate, once all that is read is flushed, and flushes the gate.
 pub fn open_done<T: Store>(store: &mut T) -> Result<(), SaveError>
     ensures opened { OnOk result (Tells IsDone (T.files store.new)) }
     ensures gate { Moves T.files T.may_leave T.moment T.image_since (SameBut done_name) store.old store.new }
@@ -69,7 +68,7 @@ pub fn open_done<T: Store>(store: &mut T) -> Result<(), SaveError>
     Ok(())
 }
 
-// Makes what is read stable.
+// Flushes what is read.
 fn settle<T: Store>(store: &mut T) -> Result<(), SaveError>
     ensures any_moment { Moves T.files T.may_leave T.moment T.image_since SameFiles store.old store.new }
     ensures settled { OnOk result (IsSettled (T.files store.new) (T.may_leave store.new)) }

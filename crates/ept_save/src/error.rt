@@ -13,11 +13,11 @@ use std::alloc::AllocError;
 pub enum SaveError {
     /// The store failed: its count of faults rose.
     StoreFault,
-    /// The body of a letter that counts is absent, or is that of no checkpoint; or both letters count and
-    /// have one generation, which is told of letter b.
+    /// The body of a letter that counts is missing, or is not that of a checkpoint. Or both letters count and have one
+    /// generation, which is reported for letter b.
     BadCheckpoint { letter: Letter },
-    /// The tile that the current checkpoint names for this key is absent, is no tile of the node, or has
-    /// another number of points.
+    /// The tile that the current checkpoint names for this key is missing, is no tile of the node, or has another number
+    /// of points.
     TileDamaged { key: Key },
     /// Memory ran out.
     Memory,

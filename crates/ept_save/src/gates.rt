@@ -1,4 +1,4 @@
-//! Gates: files that are open where they hold exactly the one byte 1.
+//! Gates: files that are open if they hold exactly the one byte 1.
 
 ghost use Rattle.std.specs.Prelude.{◌≡◌, ◌↔◌, Some, IfOk, IfErr, OnOk, IsTrue};
 ghost use Rattle.ept_base.specs.Causes.{HasCauseOf};
@@ -27,7 +27,7 @@ pub fn is_open<T: Store>(alloc: Global, store: &mut T, name: &str) -> Result<boo
     Ok(is_there && matches!(bytes.as_slice(), [1]))
 }
 
-/// Closes a gate: puts the byte 0 if it is open, and nothing if it is not; then makes what is read stable.
+/// Closes a gate: puts the byte 0 if it is open, and nothing if it is not. Then it flushes what is read.
 pub fn close_gate<T: Store>(alloc: Global, store: &mut T, name: &str) -> Result<(), SaveError>
     ensures any_moment { Moves T.files T.may_leave T.moment T.image_since (SameBut name.now) store.old store.new }
     ensures stood_shut { (all : Files) → T.files store.old ≡ Some all → ¬ IsOpen all name.now

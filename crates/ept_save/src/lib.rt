@@ -18,7 +18,7 @@ pub use done::{close_done, is_done, open_done};
 pub use error::SaveError;
 pub use gates::{close_gate, is_open};
 pub use laws::{images_law, sound_law, sound_steps_law};
-pub use loading::{load_line, load_node, load_tile};
+pub use loading::{load_bytes, load_line, load_node, load_tile};
 pub use migrating::migrate;
 pub use opening::open;
 pub use saved::Saved;

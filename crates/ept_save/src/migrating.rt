@@ -25,13 +25,13 @@ use crate::saving::{begin, save_points};
 use ept_base::Store;
 use std::alloc::Global;
 
-/// Takes over the current checkpoint, whose tiles are of the old layout: puts each of them again in the new one, under the
-/// version that it does not name, and commits a checkpoint of the same points that names these.
+/// Takes over the current checkpoint, whose tiles are of the old layout. It puts each of them again in the new one, under
+/// the version that the checkpoint does not name. Then it commits a checkpoint of the same points that names these.
 ///
 /// # Errors
 ///
 /// Those of [`load_tile`] for a node of the checkpoint, and of [`commit`](crate::commit). What is known of the checkpoints
-/// is then of no use: the store is to be opened anew.
+/// is then of no use: open the store again.
 pub fn migrate<T: Store>(alloc: Global, store: &mut T, saved: &mut Saved) -> Result<(), SaveError>
     requires old { IsOfLayout Old saved.old.current }
     requires fresh { saved.old.lines ≡ lines_of saved.old.current }
@@ -46,7 +46,7 @@ pub fn migrate<T: Store>(alloc: Global, store: &mut T, saved: &mut Saved) -> Res
         → StandsFor saved.new (T.files store.new) (T.may_leave store.new)) }
     ensures settled { OnOk result (IsSettled (T.files store.new) (T.may_leave store.new)) }
 
-    // A tile is reported as damaged only if it is, and at Ok none was.
+    // A tile is reported as damaged only if it is, and on success no tile was.
     ensures only { IfErr result (λ e. ((key : VoxelKey) × (e ≡ SaveError.TileDamaged key)) ⊎ IsStores e) }
     ensures damaged { (key : VoxelKey) → result ≡ Err (SaveError.TileDamaged key) → HasLine saved.old.current key
         × Tells (IsDamaged saved.old.current key) (T.files store.old) }

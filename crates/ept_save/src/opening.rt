@@ -25,15 +25,15 @@ use std::alloc::Global;
 ///
 /// # Errors
 ///
-/// `BadCheckpoint` where the body of a letter that counts is absent or that of no checkpoint, or where both
-/// count and have one generation; letter a is looked at first.
+/// `BadCheckpoint` if the body of a letter that counts is missing or is not that of a checkpoint. Or both letters count
+/// and have one generation. Letter a comes first.
 pub fn open<T: Store>(alloc: Global, store: &mut T) -> Result<Saved, SaveError>
     ensures current { IfOk result (λ saved. Tells (HasCurrent saved.current) (T.files store.old)) }
     ensures lines { IfOk result (λ saved. saved.lines ≡ lines_of saved.current) }
     ensures begun { IfOk result (λ saved. saved.begun ≡ false) }
 
-    // A bad checkpoint is told exactly where there is one, unless the store fails or memory runs out; and so none
-    // of files of which it is known which one is current, or that none is, as of sound ones.
+    // A bad checkpoint is reported exactly if there is one, unless the store fails or memory runs out. So no checkpoint is
+    // reported if it is known which one is current, or that there is none. Of sound files that is known.
     ensures refused { (which : l.Letter) → result ≡ Err (SaveError.BadCheckpoint which)
         → Tells (λ all. IsBad all which) (T.files store.old) }
     ensures refusal_comes { (which : l.Letter) → (all : Files) → T.files store.old ≡ Some all → IsBad all which
@@ -43,7 +43,7 @@ pub fn open<T: Store>(alloc: Global, store: &mut T) -> Result<Saved, SaveError>
     ensures none_bad { (current : Current) (all : Files) → T.files store.old ≡ Some all → HasCurrent current all
         → IfErr result IsStores }
 
-    // What is read and every image are as before, and a settled store stands for what was found.
+    // What is read and every image are as before, and a settled store matches what was found.
     ensures stands { IfOk result (λ saved. (all : Files) → T.files store.old ≡ Some all
         → IsSettled (T.files store.old) (T.may_leave store.old)
         → StandsFor saved (T.files store.new) (T.may_leave store.new)) }
@@ -76,7 +76,7 @@ fn opened<T: Store>(alloc: Global, store: &mut T) -> Result<Saved, SaveError>
     Ok(Saved::of(alloc, current)?)
 }
 
-// The checkpoint of a letter, where it counts.
+// The checkpoint of a letter, if it counts.
 fn checkpoint_of<T: Store>(
     alloc: Global,
     store: &mut T,

@@ -25,7 +25,7 @@ use std::alloc::Global;
 use std::collections::BTreeMap;
 use std::marker::Model;
 
-/// What is told of a node's tile, beside its key.
+/// What is known of a node's tile, besides its key.
 #[derive(Clone, Copy, Debug)]
 pub(crate) struct Line {
     pub(crate) count: u64,
@@ -35,8 +35,8 @@ pub(crate) struct Line {
 
 /// What is known of a store's checkpoints: the current one, and the lines for the next one.
 ///
-/// The lines stand in key order. After [`open`](crate::open) and after each commit they are those of the
-/// current checkpoint, or none where there is none.
+/// The lines are in key order. After [`open`](crate::open) and after each commit they are those of the current
+/// checkpoint, or there are none if there is no checkpoint.
 #[derive(Drop)]
 pub struct Saved {
     pub(crate) current: Option<(Letter, Checkpoint)>,
@@ -55,7 +55,7 @@ impl Model for Saved {
 }
 
 impl Saved {
-    /// What is known where this is the current checkpoint.
+    /// What is known if this is the current checkpoint.
     pub(crate) fn of(alloc: Global, current: Option<(Letter, Checkpoint)>) -> Result<Saved, Memory>
         ensures { IfOk result (λ saved. saved
             ≡ record { current = current; lines = lines_of current; begun = false }) }
@@ -78,7 +78,7 @@ impl Saved {
         self.current.as_ref().map(|current| &current.1)
     }
 
-    /// What the current checkpoint tells of a node, if there is one of this key.
+    /// What the current checkpoint states of a node, if there is one of this key.
     pub fn line(&self, key: &Key) -> Option<&NodeLine>
         ensures { option_copied result ≡ current_line self.now.current key.now }
     {

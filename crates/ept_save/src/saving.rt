@@ -25,15 +25,15 @@ use ept_point::{Point, tile_bytes};
 use ept_space::Key;
 use std::alloc::Global;
 
-/// Begins the next checkpoint: closes the gate of its letter, the one that is not current, by the byte 0 where it
-/// is open, and makes what is read stable.
+/// Begins the next checkpoint. It closes the gate of its letter, the one that is not current, by the byte 0 if it is open.
+/// Then it flushes what is read.
 pub fn begin<T: Store>(alloc: Global, store: &mut T, saved: &mut Saved) -> Result<(), SaveError>
     ensures begun { OnOk result (saved.new ≡ record saved.old { begun = true }) }
     ensures unchanged { OnErr result (saved.new ≡ saved.old) }
     ensures puts { OnOk result (StepsBy (Closes (gate_name (next_letter saved.old.current)))
         (T.files store.old) (T.files store.new)) }
 
-    // Whatever the moment, no name but this gate changes, and the current checkpoint stays.
+    // At every moment only this gate changes, and the current checkpoint stays.
     ensures gate { Moves T.files T.may_leave T.moment T.image_since
         (SameBut (gate_name (next_letter saved.old.current))) store.old store.new }
     ensures keeps { StandsFor saved.old (T.files store.old) (T.may_leave store.old)
@@ -51,7 +51,7 @@ pub fn begin<T: Store>(alloc: Global, store: &mut T, saved: &mut Saved) -> Resul
 }
 
 /// Puts the tile of a node for the next checkpoint, under the version that the current checkpoint does not
-/// name for it. Which octants of the node go down is told by `mask`, bit o for octant o.
+/// name for it. `mask` has a bit for each octant of the node that goes down, bit o for octant o.
 pub fn save_tile<T: Store>(
     alloc: Global,
     store: &mut T,
@@ -71,7 +71,7 @@ pub fn save_tile<T: Store>(
         (T.files store.old) (T.files store.new)) }
     ensures unchanged { OnErr result (saved.new ≡ saved.old) }
 
-    // Whatever the moment, no name but this tile changes, and the current checkpoint stays.
+    // At every moment only this tile changes, and the current checkpoint stays.
     ensures one_tile { Moves T.files T.may_leave T.moment T.image_since
         (SameBut (work_tile_name (free_letter saved.old.current key) key)) store.old store.new }
     ensures keeps { Moves T.files T.may_leave T.moment T.image_since

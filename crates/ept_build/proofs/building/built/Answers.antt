@@ -21,15 +21,15 @@ use Rattle.ept_build.specs.Building.{IsUnderWay}
 use Rattle.ept_build.specs.Reached.{IsThrough}
 use Rattle.ept_build.specs.Phases.{AreMany}
 use Rattle.ept_build.proofs.Asking.{asks-none}
-use Rattle.ept_build.proofs.Caused.{start-phase}
+use Rattle.ept_build.proofs.Caused.{start-phase, end-phase, renew-no-spill}
 use Rattle.ept_build.proofs.Causes.{tells-some}
 use Rattle.ept_build.proofs.Ended.{asks-alike, no-refusal, cause-none, cause-after, cause-last, finds-none, kept-after}
 use Rattle.ept_build.proofs.Ground.{IsGround, ground as ground-of, extent-found, many-at}
-use Rattle.ept_build.proofs.Damage.{loading-tells, end-no-tile, first-more, slot-intact}
+use Rattle.ept_build.proofs.Damage.{loading-tells, first-more, slot-intact}
 use Rattle.ept_build.proofs.Judging.{err-one, end-refused, end-not-many, end-no-source}
 use Rattle.ept_build.proofs.Moved.{moves-then}
 use Rattle.ept_build.proofs.Numbers.{nodes-number}
-use Rattle.ept_build.proofs.Refusals.{phase-refused, start-refused, end-phase}
+use Rattle.ept_build.proofs.Refusals.{phase-refused, start-refused}
 use Rattle.ept_build.proofs.Roomy.{many-phases}
 use Rattle.ept_build.proofs.Running.{few-lines}
 use Rattle.ept_build.proofs.TakenUp.{inserted-few, taken-inputs, taken-of}
@@ -165,15 +165,14 @@ returns-in-Err-finish-clause-ends g c = λ all start shelf_told starts.
     (tells-some _ (g.H.Shelf.files c.args.shelf.now) all shelf_told (c.grow.ensures.sound starts.spills) it.points it.out it.are sampled way) (c.grow.ensures.reached starts.spills way.stands) in
     let both = moves-then g.T.Store.files g.T.Store.may_leave g.T.Store.moment g.T.Store.image_since (IsUnderWay all c.args.config.now start) c.args.store.now c.take_up.new.store c.grow.new.store first second in
     let way_on = tells-some _ (g.H.Shelf.files c.args.shelf.now) all shelf_told (c.in-Ok.ensures.on_way starts.spills) it.points it.out it.are sampled way in
-    let grown = tells-some _ (g.H.Shelf.files c.args.shelf.now) all shelf_told (c.in-Ok.ensures.sampled starts.spills) it.points it.are.scan it.are.can sampled in
     record {
       built = tt;
       under_way = moves-then g.T.Store.files g.T.Store.may_leave g.T.Store.moment g.T.Store.image_since (IsUnderWay all c.args.config.now start) c.args.store.now c.grow.new.store c.finish.new.store both
           (end-moves all start c.args.config.now c.args.at.saved.current c.args.plan.now c.whole_extent-extent.result it has g.T.Store.files g.T.Store.may_leave g.T.Store.moment g.T.Store.image_since c.grow.new.store c.finish.new.store c.take_up.new.at.saved.current taken (length c.args.plan.now.kept.inputs) c.in-Ok.end.saved.current c.in-Ok.ensures.through
-          (c.finish.ensures.sound starts.spills all it.points it.out it.are it.number it.has_extent grown way_on));
+          (c.finish.ensures.sound all it.points it.out it.are it.number it.has_extent way_on));
       stopped = λ is. absurd (end-not-many c.in-Err-finish.refused c.in-Err-finish.ensures.only (err-one is));
       refused = end-refused all c.args.config.now c.args.at.saved.current c.in-Err-finish.refused c.in-Err-finish.ensures.only
-          (λ kept found number same. c.in-Err-finish.ensures.no_damage starts.spills it.points it.are.can grown kept found number (ap (λ (w : BuildError). Err w) same));
+          (λ key same. c.in-Err-finish.ensures.undamaged all it.points it.out way_on key (ap (λ (w : BuildError). Err w) same));
     }
 
 pub returns-in-Err-finish-clause-only : goal.returns-in-Err-finish-clause-only
@@ -182,7 +181,7 @@ returns-in-Err-finish-clause-only g c =
 
 pub returns-in-Err-finish-clause-damaged : goal.returns-in-Err-finish-clause-damaged
 returns-in-Err-finish-clause-damaged g c = λ key is stands.
-    absurd (end-no-tile c.in-Err-finish.refused key c.in-Err-finish.ensures.only (err-one is))
+    (c.in-Ok.end.saved.current, c.in-Err-finish.ensures.damaged key (ap (λ (w : BuildError). Err w) (err-one is)) (c.in-Ok.ensures.stands_after (c.in_default.ensures.stands stands)))
 
 pub returns-in-Err-finish-clause-damage : goal.returns-in-Err-finish-clause-damage
 returns-in-Err-finish-clause-damage g c = λ start told.
@@ -202,8 +201,7 @@ returns-in-Err-finish-clause-stores g c =
     cause-last _ _ _ _ c.take_up.ensures.stores.later c.in-Ok.ensures.stores_later c.finish.ensures.stores.later (λ is. c.in-Err-finish.ensures.stores.failed (ap (λ (w : BuildError). Err w) (err-one is)))
 
 pub returns-in-Err-finish-clause-spill : goal.returns-in-Err-finish-clause-spill
-returns-in-Err-finish-clause-spill g c = λ is.
-    subst (λ (w : Forest _). 0 < faults_of g.F.SpillFile.faults (trees.nodes_of w)) (sym c.into_forest-in-Err-finish.ensures) (c.in-Err-finish.ensures.spill (ap (λ (w : BuildError). Err w) (err-one is)))
+returns-in-Err-finish-clause-spill g c = λ is. absurd (renew-no-spill c.in-Err-finish.refused c.in-Err-finish.ensures.only (err-one is))
 
 -- ---- all is done
 
@@ -222,11 +220,11 @@ returns-in-Ok-finish-clause-ends g c = λ all start shelf_told starts.
     let both = moves-then g.T.Store.files g.T.Store.may_leave g.T.Store.moment g.T.Store.image_since (IsUnderWay all c.args.config.now start) c.args.store.now c.take_up.new.store c.grow.new.store first second in
     let way_on = tells-some _ (g.H.Shelf.files c.args.shelf.now) all shelf_told (c.in-Ok.ensures.on_way starts.spills) it.points it.out it.are sampled way in
     let grown = tells-some _ (g.H.Shelf.files c.args.shelf.now) all shelf_told (c.in-Ok.ensures.sampled starts.spills) it.points it.are.scan it.are.can sampled in
-    let complete = c.in-Ok-finish.ensures.complete starts.spills all it.points it.out it.are it.number it.has_extent grown way_on in
-    let ending = c.finish.ensures.sound starts.spills all it.points it.out it.are it.number it.has_extent grown way_on in
+    let complete = c.in-Ok-finish.ensures.complete all it.points it.out it.are it.number it.has_extent way_on in
+    let ending = c.finish.ensures.sound all it.points it.out it.are it.number it.has_extent way_on in
     let nodes_are = nodes-number (rules_of c.args.plan.now.kept) it.points (nodes_of g.F.SpillFile.held c.in-Ok.end.octree) grown in
     let through = subst (λ (w : List Input). IsThrough c.take_up.new.at.saved.current c.args.plan.now.kept c.args.config.now.checkpoint c.args.plan.now.points (length w) c.in-Ok.end.saved.current) c.requires.plan.kept_is.inputs_is c.in-Ok.ensures.through in record {
-      built = complete-end all start c.args.config.now c.args.at.saved.current c.args.plan.now c.whole_extent-extent.result it has c.take_up.new.at.saved.current taken c.in-Ok.end.saved.current through c.len.result (c.len.ensures.number ∙ (ap (λ (w : List Branch). length w) c.finish.ensures.same ∙ nodes_are))
+      built = complete-end all start c.args.config.now c.args.at.saved.current c.args.plan.now c.whole_extent-extent.result it has c.take_up.new.at.saved.current taken c.in-Ok.end.saved.current through c.len.result (c.len.ensures.number ∙ nodes_are)
           (g.T.Store.files c.grow.new.store) (g.T.Store.files c.finish.new.store) ending.reads complete;
       under_way = moves-then g.T.Store.files g.T.Store.may_leave g.T.Store.moment g.T.Store.image_since (IsUnderWay all c.args.config.now start) c.args.store.now c.grow.new.store c.finish.new.store both
           (end-moves all start c.args.config.now c.args.at.saved.current c.args.plan.now c.whole_extent-extent.result it has g.T.Store.files g.T.Store.may_leave g.T.Store.moment g.T.Store.image_since c.grow.new.store c.finish.new.store c.take_up.new.at.saved.current taken (length c.args.plan.now.kept.inputs) c.in-Ok.end.saved.current c.in-Ok.ensures.through ending);
@@ -258,5 +256,5 @@ returns-in-Ok-finish-clause-spill g c = λ is. absurd (no-refusal is)
 
 pub returns-in-Ok-finish-clause-kept : goal.returns-in-Ok-finish-clause-kept
 returns-in-Ok-finish-clause-kept g c =
-    kept-after c.len.ensures.number (c.len.ensures.kept c.in-Ok-finish.ensures.unbroken c.finish.ensures.agrees) (c.finish.ensures.cache ∙ (c.in-Ok.ensures.cache ∙ c.take_up.ensures.cache))
+    kept-after c.len.ensures.number (c.len.ensures.kept c.in-Ok.ensures.tree.unbroken c.in-Ok.ensures.tree.agrees) (c.in-Ok.ensures.cache ∙ c.take_up.ensures.cache)
     (ap (λ (w : Forest _). kept_by g.F.SpillFile.keeps (trees.nodes_of w)) c.into_forest-in-Ok-finish.ensures)

@@ -1,97 +1,120 @@
-use Rattle.std.proofs.Common.{◌≡◌, ◌∙◌, ℕ, ◌≤◌, List, [], ◌∷◌, ◌++◌, take, length, map, sym, ap, subst, arith, rules}
+use Rattle.std.proofs.Common.{◌≡◌, ◌∙◌, ℕ, ◌<◌, ◌≤◌, List, [], ◌∷◌, ◌++◌, take, get_or, length, map, sym, ap, subst, arith, rules, refl, Some}
 use Rattle.std.specs.Prelude.{Err}
-use Rattle.std.proofs.lemmas.List.{take_all, length-map}
-use Rattle.ept_base.specs.Files.{Puts, StepsBy}
+use Rattle.std.proofs.lemmas.List.{take_all}
+use Rattle.ept_base.specs.Files.{Files, Puts, StepsBy, Tells}
 use Rattle.ept_hier.specs.Hierarchy.{Node, KeysAscend}
 use Rattle.ept_point.specs.Packed.{tile}
+use Rattle.ept_sample.specs.declared.tiles.Tile.{Tile}
 use Rattle.ept_sample.specs.Members.{IsMember}
-use Rattle.ept_space.specs.VoxelKey.{VoxelKey, AreAscending}
-use Rattle.ept_table.specs.Octree.{Branch, key_of, tile_of}
-use Rattle.ept_octree.specs.Octree.{rules_of, nodes_of}
-use Rattle.ept_octree.proofs.Walked.{node-at}
-use Rattle.ept_publish.specs.declared.error.PublishError.TheVariants.{SpillFault, SpillDamaged}
-use Rattle.ept_meta.specs.Output.{counted, tile_name, tile_file, names_of}
-use Rattle.ept_publish.proofs.Putting.{puts-more, tiles-more}
+use Rattle.ept_space.specs.VoxelKey.{VoxelKey}
+use Rattle.ept_ckpt.specs.declared.node_line.NodeLine.{NodeLine}
+use Rattle.ept_meta.specs.Output.{tile_name, tile_file}
+use Rattle.ept_save.specs.Current.{Current}
+use Rattle.ept_save.specs.Loading.{HasLine, IsDamaged}
+use Rattle.ept_save.specs.Opening.{lines_of}
+use Rattle.ept_save.proofs.DamagedTiles.{line-there, line-tile}
+use Rattle.ept_save.proofs.KeyLines.{member-at}
+use Rattle.ept_save.proofs.Standing.{stepped, told_some}
+use Rattle.ept_publish.specs.Lines.{counted_by, named_by}
+use Rattle.ept_publish.specs.Publishing.{PutsAll, SameButThese}
+use Rattle.ept_publish.specs.declared.error.PublishError.TheVariants.{TileDamaged}
+use Rattle.ept_publish.proofs.Putting.{puts-more, taken-more}
 use Rattle.ept_publish.proofs.Naming.{tile-these, these-both}
-use Rattle.ept_publish.proofs.Apart.{keys-ascend}
-use Rattle.ept_octree.proofs.Sampled.{node-distinct}
+use Rattle.ept_publish.proofs.Copying.{tile-at, as-many, keys-ascend, stays, damaged-start}
 use Rattle.ept_publish.proofs.Refusing.{one-refusal}
 use Rattle.ept_publish.proofs.tiles.put_tiles.Goals as goal
 
-pub put_node-requires : goal.put_node-requires
-put_node-requires g c =
-    let nodes : List Branch = nodes_of g.F.SpillFile.held c.args.octree.now in
-    let all : c.deref-key-items.result.now ≡ map key_of nodes = c.deref-key-items.ensures.value ∙ c.in_ok-keys.ensures.keys in
-    let at = node-at nodes c.deref-key-items.result.now c.loop-key.key-index c.key-item.result all c.loop-key-test.true c.key-item.is in
+pub copy_tile-requires : goal.copy_tile-requires
+copy_tile-requires g c =
+    let lines : List NodeLine = c.lines_in-lines.result.now in
+    let there : IsMember c.line-item.result lines = member-at lines c.loop-line.line-index c.line-item.result c.loop-line-test.true (sym c.line-item.is) in
     record {
-      key = (at.0, subst (λ (w : List Branch). IsMember at.0 w) (sym c.loop-key.invariant.same) at.3, at.4);
-      agrees = c.loop-key.invariant.agrees;
+      line = line-there c.args.saved.now.current c.line-item.result (subst (IsMember c.line-item.result) c.lines_in-lines.ensures there);
+      newest = c.requires.newest;
     }
 
-pub returns-in_err-count-clause-any_moment : goal.returns-in_err-count-clause-any_moment
-returns-in_err-count-clause-any_moment g c =
-    let nodes : List Branch = nodes_of g.F.SpillFile.held c.args.octree.now in
-    let all : c.deref-key-items.result.now ≡ map key_of nodes = c.deref-key-items.ensures.value ∙ c.in_ok-keys.ensures.keys in
-    let at = node-at nodes c.deref-key-items.result.now c.loop-key.key-index c.key-item.result all c.loop-key-test.true c.key-item.is in
-    these-both g.T.Store.files g.T.Store.may_leave g.T.Store.moment g.T.Store.image_since (names_of (map tile_file (map tile_of nodes))) c.args.store.now c.loop-key.store c.put_node.new.store c.loop-key.invariant.moves
-    (tile-these g.T.Store.files g.T.Store.may_leave g.T.Store.moment g.T.Store.image_since nodes at.0 c.key-item.result at.3 at.4 c.loop-key.store c.put_node.new.store c.put_node.ensures.any_moment)
+pub loop-line-preserved : goal.loop-line-preserved
+loop-line-preserved g c =
+    let current : Current = c.args.saved.now.current in
+    let lines : List NodeLine = c.lines_in-lines.result.now in
+    let line : NodeLine = c.line-item.result in
+    let i : ℕ = c.loop-line.line-index in
+    let here : i < length lines = c.loop-line-test.true in
+    let is : get_or lines i line ≡ line = sym c.line-item.is in
+    let among : IsMember line (lines_of current) = subst (IsMember line) c.lines_in-lines.ensures (member-at lines i line here is) in
+    let node : Node = counted_by line in
+    record {
+      counts = c.in_ok-push.ensures.items ∙ (ap (λ (w : List Node). w ++ node ∷ []) c.loop-line.invariant.counts ∙ sym (taken-more counted_by lines i line here c.line-item.is));
+      put = λ start tiles told names.
+          let own = subst (λ (w : List NodeLine). (i < length w) × (get_or w i line ≡ line)) c.lines_in-lines.ensures (here, is) in
+          let at = tile-at start tiles (lines_of current) i line names own.0 own.1 in
+          let t : Tile = at.0 in
+          let now = stepped (SameButThese (map named_by (lines_of current))) (g.T.Store.files c.args.store.now) (g.T.Store.files c.loop-line.store) start told c.loop-line.invariant.moves.reads in
+          let has = line-tile current line among c.requires.newest t.points now.0 (stays c.output_names_law.ensures.outside (lines_of current) line start now.0 now.2 ∙ at.3.has_tile) in
+          let step : StepsBy (Puts (tile_name line.key) (tile t.points)) (g.T.Store.files c.loop-line.store) (g.T.Store.files c.copy_tile.new.store) =
+          told_some _ (g.T.Store.files c.loop-line.store) now.0 now.1 (c.in_ok-copy_tile.ensures.ok t.points) has in
+          puts-more (map tile_file (take i tiles)) _ (tile_name t.key) (tile t.points) (taken-more tile_file tiles i t at.1 (sym at.2)) (g.T.Store.files c.args.store.now) (g.T.Store.files c.loop-line.store) (g.T.Store.files c.copy_tile.new.store) (c.loop-line.invariant.put start tiles told names)
+          (subst (λ (k : VoxelKey). StepsBy (Puts (tile_name k) (tile t.points)) (g.T.Store.files c.loop-line.store) (g.T.Store.files c.copy_tile.new.store)) at.3.key step);
+      moves = these-both g.T.Store.files g.T.Store.may_leave g.T.Store.moment g.T.Store.image_since (map named_by (lines_of current)) c.args.store.now c.loop-line.store c.copy_tile.new.store c.loop-line.invariant.moves
+          (tile-these g.T.Store.files g.T.Store.may_leave g.T.Store.moment g.T.Store.image_since (lines_of current) line among c.loop-line.store c.copy_tile.new.store c.copy_tile.ensures.any_moment);
+      later = omega (arith, c.loop-line.invariant.later, c.copy_tile.ensures.cause.later);
+    }
+
+pub returns-in_err-copy_tile-clause-any_moment : goal.returns-in_err-copy_tile-clause-any_moment
+returns-in_err-copy_tile-clause-any_moment g c =
+    let current : Current = c.args.saved.now.current in
+    let lines : List NodeLine = c.lines_in-lines.result.now in
+    let among : IsMember c.line-item.result (lines_of current) = subst (IsMember c.line-item.result) c.lines_in-lines.ensures (member-at lines c.loop-line.line-index c.line-item.result c.loop-line-test.true (sym c.line-item.is)) in
+    these-both g.T.Store.files g.T.Store.may_leave g.T.Store.moment g.T.Store.image_since (map named_by (lines_of current)) c.args.store.now c.loop-line.store c.copy_tile.new.store c.loop-line.invariant.moves
+    (tile-these g.T.Store.files g.T.Store.may_leave g.T.Store.moment g.T.Store.image_since (lines_of current) c.line-item.result among c.loop-line.store c.copy_tile.new.store c.copy_tile.ensures.any_moment)
 
 pub returns-in_err-push-clause-any_moment : goal.returns-in_err-push-clause-any_moment
 returns-in_err-push-clause-any_moment g c =
-    let nodes : List Branch = nodes_of g.F.SpillFile.held c.args.octree.now in
-    let all : c.deref-key-items.result.now ≡ map key_of nodes = c.deref-key-items.ensures.value ∙ c.in_ok-keys.ensures.keys in
-    let at = node-at nodes c.deref-key-items.result.now c.loop-key.key-index c.key-item.result all c.loop-key-test.true c.key-item.is in
-    these-both g.T.Store.files g.T.Store.may_leave g.T.Store.moment g.T.Store.image_since (names_of (map tile_file (map tile_of nodes))) c.args.store.now c.loop-key.store c.put_node.new.store c.loop-key.invariant.moves
-    (tile-these g.T.Store.files g.T.Store.may_leave g.T.Store.moment g.T.Store.image_since nodes at.0 c.key-item.result at.3 at.4 c.loop-key.store c.put_node.new.store c.put_node.ensures.any_moment)
+    let current : Current = c.args.saved.now.current in
+    let lines : List NodeLine = c.lines_in-lines.result.now in
+    let among : IsMember c.line-item.result (lines_of current) = subst (IsMember c.line-item.result) c.lines_in-lines.ensures (member-at lines c.loop-line.line-index c.line-item.result c.loop-line-test.true (sym c.line-item.is)) in
+    these-both g.T.Store.files g.T.Store.may_leave g.T.Store.moment g.T.Store.image_since (map named_by (lines_of current)) c.args.store.now c.loop-line.store c.copy_tile.new.store c.loop-line.invariant.moves
+    (tile-these g.T.Store.files g.T.Store.may_leave g.T.Store.moment g.T.Store.image_since (lines_of current) c.line-item.result among c.loop-line.store c.copy_tile.new.store c.copy_tile.ensures.any_moment)
 
-pub loop-key-preserved : goal.loop-key-preserved
-loop-key-preserved g c =
-    let nodes : List Branch = nodes_of g.F.SpillFile.held c.args.octree.now in
-    let key : VoxelKey = c.key-item.result in
-    let i : ℕ = c.loop-key.key-index in
-    let all : c.deref-key-items.result.now ≡ map key_of nodes = c.deref-key-items.ensures.value ∙ c.in_ok-keys.ensures.keys in
-    let at = node-at nodes c.deref-key-items.result.now i key all c.loop-key-test.true c.key-item.is in
-    let b : Branch = at.0 in
-    let member : IsMember b (nodes_of g.F.SpillFile.held c.loop-key.octree) = subst (λ (w : List Branch). IsMember b w) (sym c.loop-key.invariant.same) at.3 in
-    let node : Node = (key, c.in_ok-count.count) in
-    let counts : node ≡ counted (tile_of b) = λ j. (sym at.4 j, c.in_ok-count.ensures.count b member at.4 j) in
-    record {
-      counts = c.in_ok-push.ensures.items ∙ (ap (λ (w : List Node). w ++ node ∷ []) c.loop-key.invariant.counts
-          ∙ (ap (λ (n : Node). map counted (map tile_of (take i nodes)) ++ n ∷ []) counts ∙ sym (tiles-more counted nodes i b at.1 at.2)));
-      put = λ tell. puts-more (map tile_file (map tile_of (take i nodes))) _ (tile_name b.0) (tile b.1.points) (tiles-more tile_file nodes i b at.1 at.2) (g.T.Store.files c.args.store.now) (g.T.Store.files c.loop-key.store) (g.T.Store.files c.put_node.new.store) (c.loop-key.invariant.put tell)
-          (subst (λ (k : VoxelKey). StepsBy (Puts (tile_name k) (tile b.1.points)) (g.T.Store.files c.loop-key.store) (g.T.Store.files c.put_node.new.store)) (sym at.4) (c.in_ok-count.ensures.ok tell b member at.4));
-      moves = these-both g.T.Store.files g.T.Store.may_leave g.T.Store.moment g.T.Store.image_since (names_of (map tile_file (map tile_of nodes))) c.args.store.now c.loop-key.store c.put_node.new.store c.loop-key.invariant.moves
-          (tile-these g.T.Store.files g.T.Store.may_leave g.T.Store.moment g.T.Store.image_since nodes b key at.3 at.4 c.loop-key.store c.put_node.new.store c.put_node.ensures.any_moment);
-      later = omega (arith, c.loop-key.invariant.later, c.put_node.ensures.cause.later);
-      same = c.put_node.ensures.same ∙ c.loop-key.invariant.same;
-      linked = λ linked. c.put_node.ensures.linked (c.loop-key.invariant.linked linked);
-      agrees = c.put_node.ensures.agrees;
-      unbroken = λ unbroken. c.in_ok-count.ensures.unbroken (c.loop-key.invariant.unbroken unbroken);
-      rules = c.put_node.ensures.rules ∙ c.loop-key.invariant.rules;
-      most = c.put_node.ensures.most ∙ c.loop-key.invariant.most;
-      cache = c.put_node.ensures.cache ∙ c.loop-key.invariant.cache;
-    }
+pub returns-in_err-copy_tile-clause-damaged : goal.returns-in_err-copy_tile-clause-damaged
+returns-in_err-copy_tile-clause-damaged g c = λ key told.
+    let current : Current = c.args.saved.now.current in
+    let line : NodeLine = c.line-item.result in
+    let lines : List NodeLine = c.lines_in-lines.result.now in
+    let among : IsMember line (lines_of current) = subst (IsMember line) c.lines_in-lines.ensures (member-at lines c.loop-line.line-index line c.loop-line-test.true (sym c.line-item.is)) in
+    let out = c.from_residual-in_err-copy_tile.result in
+    let is : out ≡ Err c.in_err-copy_tile.field-0.0 = search rules in
+    let found = c.copy_tile.ensures.damaged key (one-refusal c.copy_tile.result out c.in_err-copy_tile.field-0.0 (TileDamaged key) c.in_err-copy_tile.was is told) in (
+      subst (λ (k : VoxelKey). HasLine current k) found.0 (line-there current line among),
+      damaged-start c.output_names_law.ensures.outside current line.key key found.0 (g.T.Store.files c.args.store.now) (g.T.Store.files c.loop-line.store) c.loop-line.invariant.moves.reads found.1,
+    )
+
+pub returns-in_err-copy_tile-clause-sound : goal.returns-in_err-copy_tile-clause-sound
+returns-in_err-copy_tile-clause-sound g c = λ shelf start read sound has key told.
+    let current : Current = c.args.saved.now.current in
+    let line : NodeLine = c.line-item.result in
+    let out = c.from_residual-in_err-copy_tile.result in
+    let is : out ≡ Err c.in_err-copy_tile.field-0.0 = search rules in
+    let found = c.copy_tile.ensures.damaged key (one-refusal c.copy_tile.result out c.in_err-copy_tile.field-0.0 (TileDamaged key) c.in_err-copy_tile.was is told) in
+    let damaged = damaged-start c.output_names_law.ensures.outside current line.key line.key refl (g.T.Store.files c.args.store.now) (g.T.Store.files c.loop-line.store) c.loop-line.invariant.moves.reads found.1 in
+    c.copy_tile.ensures.intact shelf start sound has (told_some (IsDamaged current line.key) (g.T.Store.files c.args.store.now) start read damaged)
+
+pub returns-clause-counts : goal.returns-clause-counts
+returns-clause-counts g c =
+    let lines : List NodeLine = c.lines_in-lines.result.now in
+    let end : length lines ≤ c.loop-line.line-index = omega (arith, c.loop-line-test.false) in
+    c.loop-line.invariant.counts ∙ ap (λ (w : List NodeLine). map counted_by w) (take_all c.loop-line.line-index lines end ∙ c.lines_in-lines.ensures)
 
 pub returns-clause-ascend : goal.returns-clause-ascend
 returns-clause-ascend g c =
-    let nodes : List Branch = nodes_of g.F.SpillFile.held c.args.octree.now in
-    let all : c.deref-key-items.result.now ≡ map key_of nodes = c.deref-key-items.ensures.value ∙ c.in_ok-keys.ensures.keys in
-    let end : length nodes ≤ c.loop-key.key-index = omega (arith, c.loop-key-test.false, ap length all, length-map nodes key_of) in
-    subst (λ (w : List Node). KeysAscend w) (sym (c.loop-key.invariant.counts ∙ ap (λ (w : List Branch). map counted (map tile_of w)) (take_all c.loop-key.key-index nodes end)))
-    (keys-ascend nodes (subst (λ (w : List VoxelKey). AreAscending w) c.in_ok-keys.ensures.keys c.in_ok-keys.ensures.ascend))
+    let lines : List NodeLine = c.lines_in-lines.result.now in
+    let end : length lines ≤ c.loop-line.line-index = omega (arith, c.loop-line-test.false) in
+    subst KeysAscend (sym (c.loop-line.invariant.counts ∙ ap (λ (w : List NodeLine). map counted_by w) (take_all c.loop-line.line-index lines end ∙ c.lines_in-lines.ensures)))
+    (keys-ascend c.args.saved.now.current)
 
-pub returns-in_err-count-clause-spill : goal.returns-in_err-count-clause-spill
-returns-in_err-count-clause-spill g c = λ told.
-    let out = c.from_residual-in_err-count.result in
-    let is : out ≡ Err c.in_err-count.field-0.0 = search rules in
-    c.put_node.ensures.spill (one-refusal c.put_node.result out c.in_err-count.field-0.0 SpillFault c.in_err-count.was is told)
-
-pub returns-in_err-count-clause-no_damage : goal.returns-in_err-count-clause-no_damage
-returns-in_err-count-clause-no_damage g c = λ points can are unbroken tell kept found at told.
-    let out = c.from_residual-in_err-count.result in
-    let is : out ≡ Err c.in_err-count.field-0.0 = search rules in
-    let nodes : List Branch = nodes_of g.F.SpillFile.held c.args.octree.now in
-    let same = c.loop-key.invariant.same in
-    c.put_node.ensures.intact (c.loop-key.invariant.unbroken unbroken) tell
-    (λ b m at_key. node-distinct (rules_of c.args.octree.now) points can nodes are b (subst (λ (w : List Branch). IsMember b w) same m)) kept found at
-    (one-refusal c.put_node.result out c.in_err-count.field-0.0 (SpillDamaged kept found at) c.in_err-count.was is told)
+pub returns-clause-ok : goal.returns-clause-ok
+returns-clause-ok g c = λ start tiles told names.
+    let lines : List NodeLine = c.lines_in-lines.result.now in
+    let many : length tiles ≡ length lines = as-many start tiles (lines_of c.args.saved.now.current) names ∙ ap (λ (w : List NodeLine). length w) (sym c.lines_in-lines.ensures) in
+    let end : length tiles ≤ c.loop-line.line-index = omega (arith, c.loop-line-test.false, many) in
+    subst (λ (w : List Tile). StepsBy (PutsAll (map tile_file w)) (g.T.Store.files c.args.store.now) (g.T.Store.files c.loop-line.store)) (take_all c.loop-line.line-index tiles end) (c.loop-line.invariant.put start tiles told names)
