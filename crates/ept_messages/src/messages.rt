@@ -31,11 +31,11 @@ pub struct Found<'a> {
     pub has_out: bool,
 }
 
-/// Why the run of these words failed, as one sentence, or as the usage if they are no command.
+/// Why the run of these words failed, in one line, or the usage if they are no command.
 ///
-/// If an input, a key or a value of it is to be named, the configuration is read from the shelf again. If the
-/// configuration differs from what the folder of a build keeps, the checkpoint is read from the store again too. So it is
-/// if a record is refused for its place, and the configuration has no bounds.
+/// If an input, a key or a value of it is to be named, the configuration is read from the shelf again. The checkpoint is
+/// read from the store again if the configuration differs from what the folder of a build keeps. So it is if a record of
+/// a build is out of bounds, and the configuration has none.
 ///
 /// # Errors
 ///
