@@ -45,12 +45,6 @@ bytes-told None name found bytes read there same gets = tt
 bytes-told (Some all) name found bytes read there same gets =
     subst (λ (b : Bool). all name ≡ cond b (Some bytes) None) there gets.0 ∙ ap (λ (w : List ℕ). Some w) (sym same)
 
--- and they have another length
-pub length-told : (line : NodeLine) (files : Option Files) (name : List ℕ) (found : Bool) (bytes read : List ℕ) → found ≡ true → read ≡ bytes → Tells (λ all. Gets all name found bytes) files → length read ≢ packed_width * line.count → Tells (IsOfOtherLengthUnder name line) files
-length-told line None name found bytes read there same gets other = tt
-length-told line (Some all) name found bytes read there same gets other =
-    inr (bytes, subst (λ (b : Bool). all name ≡ cond b (Some bytes) None) there gets.0, subst (λ (w : List ℕ). length w ≢ packed_width * line.count) same other)
-
 -- ---- the line of a key
 
 one_file : (name : List ℕ) (files : Files) (a b : List ℕ) → files name ≡ Some a → files name ≡ Some b → a ≡ b

@@ -1,8 +1,7 @@
 use Rattle.std.proofs.Common.{rules, refl}
-use Rattle.std.specs.Prelude.{Err}
 use Rattle.ept_point.specs.declared.layout.Layout.TheVariants.{New}
 use Rattle.ept_save.proofs.LoadedLines.{damaged-told}
-use Rattle.ept_save.proofs.TileBytes.{bytes-told, length-told}
+use Rattle.ept_save.proofs.TileBytes.{bytes-told}
 use Rattle.ept_save.proofs.loading.read_bytes.Goals as goal
 
 pub returns-clause-bytes : goal.returns-clause-bytes
