@@ -31,7 +31,9 @@ int open(const char *p, int flags, ...) {
   va_start(rest, flags);
   int mode = va_arg(rest, int);
   va_end(rest);
-  return fails("open", EACCES) ? -1 : syscall(SYS_open, p, flags, mode);
+  // The program opens this one to take the number of a standard stream. A build does without it.
+  int is_counted = strcmp(p, "/dev/null") != 0;
+  return is_counted && fails("open", EACCES) ? -1 : syscall(SYS_open, p, flags, mode);
 }
 __attribute__((destructor)) static void tell(void) {
   char line[32];

@@ -67,12 +67,14 @@ def wait_for(port, process, seconds=10):
     sys.exit(f"{process.args[0]} does not listen")
 
 
-def start(out, descriptors=None, single=False, logs=None):
+def start(out, descriptors=None, single=False, logs=None, closed=()):
     """Starts the server, and waits until it listens. If asked to, it has at most this number of descriptors, a single thread,
-    and a line a request in the file `logs`."""
+    a line a request in the file `logs`, and these standard streams closed."""
     def limit():
         if descriptors:
             resource.setrlimit(resource.RLIMIT_NOFILE, (descriptors, descriptors))
+        for stream in closed:
+            os.close(stream)
 
     port = free_port()
     words = [str(PROGRAM), *(["--single"] if single else []), str(out), f"127.0.0.1:{port}"]

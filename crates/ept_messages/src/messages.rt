@@ -3,7 +3,7 @@
 use crate::differences::{Differing, write_difference};
 use crate::keys::KEYS;
 use crate::sentences::{
-    Names, write_check, write_merge, write_query, write_refusal, write_shallow, write_unfit,
+    Limits, Names, write_check, write_merge, write_query, write_refusal, write_shallow, write_unfit,
 };
 use ept_base::{Shelf, Store};
 use ept_command::{Command, Failure, Refusal, command_of, read_configuration, read_front};
@@ -17,6 +17,9 @@ use serde_json::Value;
 use std::alloc::{AllocError, Global};
 use std::fmt::Write;
 
+// What an input is called if its path is not known.
+const AN_INPUT: &str = "an input";
+
 /// What a program found of the files that a run failed at.
 #[derive(Clone, Copy, Debug, Default)]
 pub struct Found<'a> {
@@ -24,14 +27,15 @@ pub struct Found<'a> {
     pub unread: Option<&'a str>,
     /// Whether that file exists.
     pub has_unread: bool,
-    /// Whether the folder of a build exists.
+    /// Whether the folder of the command exists.
     pub has_out: bool,
 }
 
-/// Why the run of these words failed, as one sentence, or as the usage if they are no command.
+/// Why the run of these words failed, in one line, or the usage if they are no command.
 ///
-/// If an input, a key or a value of it is to be named, the configuration is read from the shelf again. If the
-/// configuration differs from what the folder of a build keeps, the checkpoint is read from the store again too.
+/// If an input, a key or a value of it is to be named, the configuration is read from the shelf again. The checkpoint is
+/// read from the store again if the configuration differs from what the folder of a build keeps. So it is if a record of
+/// a build is out of bounds, and the configuration has none.
 ///
 /// # Errors
 ///
@@ -63,9 +67,9 @@ fn write_failure<H: Shelf, T: Store>(
         Failure::Refused(refusal) => write_build(alloc, text, refusal, names, shelf, store),
         Failure::Shallow => write_shallow(text, names.config),
         Failure::MergeRefused(refusal) => write_merge(text, refusal, names),
-        Failure::QueryRefused(error) => write_query(text, *error, names.out),
+        Failure::QueryRefused(error) => write_query(text, *error, names),
         Failure::Unfit { key, why } => write_unfit(text, key, *why, names.out),
-        Failure::CheckRefused(error) => write_check(text, *error, names.out),
+        Failure::CheckRefused(error) => write_check(text, *error, names),
         Failure::LineNotWritten(line) => write_line(text, line),
     }
 }
@@ -74,14 +78,18 @@ fn write_failure<H: Shelf, T: Store>(
 fn names_of<'a>(words: &'a [String], found: &Found<'a>) -> Names<'a> {
     let names = Names {
         has_out: found.has_out,
-        unread: found.unread.unwrap_or(""),
+        unread: found.unread,
         has_unread: found.has_unread,
         ..Names::default()
     };
     match command_of(words) {
-        Command::Build { config, out }
-        | Command::Part { config, out, .. }
-        | Command::Merge { config, out, .. } => Names {
+        Command::Build { config, out } => Names {
+            config,
+            out,
+            continues: true,
+            ..names
+        },
+        Command::Part { config, out, .. } | Command::Merge { config, out, .. } => Names {
             config,
             out,
             ..names
@@ -115,8 +123,10 @@ fn write_build<H: Shelf, T: Store>(
 ) -> Result<(), AllocError> {
     match *refusal {
         Refusal::Differs { .. } => write_differs(alloc, text, refusal, names, shelf, store),
+        Refusal::OutOfBounds { source, .. } => {
+            write_outside(alloc, text, refusal, source, names, shelf, store)
+        }
         Refusal::BadLas { source, .. }
-        | Refusal::OutOfBounds { source, .. }
         | Refusal::SourceChanged { source, .. }
         | Refusal::TooManyPoints { source } => {
             write_of_input(alloc, text, refusal, source, names, shelf)
@@ -187,14 +197,13 @@ fn write_of_input<H: Shelf>(
         Ok(config) => {
             let names = Names {
                 input: path_of(&config, source),
-                has_bounds: config.bounds.is_some(),
                 ..*names
             };
             write_refusal(text, refusal, &names)
         }
         Err(_) => {
             let names = Names {
-                input: "an input",
+                input: AN_INPUT,
                 ..*names
             };
             write_refusal(text, refusal, &names)
@@ -202,11 +211,62 @@ fn write_of_input<H: Shelf>(
     }
 }
 
+// Writes the sentence of a record that is not within the bounds: the path of its input, and whose bounds they are. If
+// the configuration can't be read again, it says neither.
+fn write_outside<H: Shelf, T: Store>(
+    alloc: Global,
+    text: &mut String,
+    refusal: &Refusal,
+    source: u32,
+    names: &Names<'_>,
+    shelf: &mut H,
+    store: &mut T,
+) -> Result<(), AllocError> {
+    match read_configuration(alloc, shelf, names.config) {
+        Ok(config) => {
+            let names = Names {
+                input: path_of(&config, source),
+                limits: limits_of(alloc, &config, names, store),
+                ..*names
+            };
+            write_refusal(text, refusal, &names)
+        }
+        Err(_) => {
+            let names = Names {
+                input: AN_INPUT,
+                ..*names
+            };
+            write_refusal(text, refusal, &names)
+        }
+    }
+}
+
+// The bounds of the inputs of a configuration. `None` if the checkpoint is needed and can't be read again.
+fn limits_of<T: Store>(
+    alloc: Global,
+    config: &Config,
+    names: &Names<'_>,
+    store: &mut T,
+) -> Option<Limits> {
+    if config.bounds.is_some() {
+        return Some(Limits::Given);
+    }
+    if !names.continues {
+        return Some(Limits::Widest);
+    }
+    let saved = open(alloc, store).ok()?;
+    if saved.current().is_some() {
+        Some(Limits::Kept)
+    } else {
+        Some(Limits::Widest)
+    }
+}
+
 // The path of the input of this number.
 fn path_of(config: &Config, source: u32) -> &str {
     match config.inputs.as_slice().get(source as usize) {
         Some(input) => input.path.as_str(),
-        None => "an input",
+        None => AN_INPUT,
     }
 }
 
@@ -220,7 +280,7 @@ fn write_unknown<H: Shelf>(
 ) -> Result<(), AllocError> {
     match read_object(alloc, names.config, shelf) {
         Some(value) => {
-            let unknown = unknown_key(&value).unwrap_or("");
+            let unknown = unknown_key(&value);
             write_refusal(text, refusal, &Names { unknown, ..*names })
         }
         None => write_refusal(text, refusal, names),

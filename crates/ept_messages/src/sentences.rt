@@ -1,6 +1,6 @@
 //! The sentence of each failure: what was wrong, in words, each file by its path.
 
-use crate::keys::{key_of, range_of};
+use crate::keys::{key_of, range_of, type_of};
 use ept_check::{CheckError, Fault};
 use ept_ckpt::Letter;
 use ept_command::{MergeRefusal, PartRefusal, Refusal};
@@ -33,7 +33,18 @@ pub const OUT_OF_MEMORY: &str = "out of memory";
 // What to do if a spill file is damaged.
 const SPILL_ADVICE: &str = "run the same build again, or with a greater `cacheSize`";
 
-/// The files and the key that a sentence may name. A name that is not known or not needed is empty.
+/// The bounds that each record of a build, a part or a merge has to be in.
+#[derive(Clone, Copy, Debug)]
+pub(crate) enum Limits {
+    /// Those of the configuration.
+    Given,
+    /// Those that the folder keeps from its first build.
+    Kept,
+    /// All stored coordinates of 32 bits.
+    Widest,
+}
+
+/// The files and the key that a sentence may name. A path that is not needed is empty.
 #[derive(Clone, Copy, Debug, Default)]
 pub(crate) struct Names<'a> {
     /// The configuration of a build, a part or a merge.
@@ -42,14 +53,16 @@ pub(crate) struct Names<'a> {
     pub(crate) out: &'a str,
     /// Whether that folder exists.
     pub(crate) has_out: bool,
+    /// Whether the command continues from the checkpoint of that folder, as a build does.
+    pub(crate) continues: bool,
     /// The input that the failure names.
     pub(crate) input: &'a str,
-    /// Whether the configuration gives bounds.
-    pub(crate) has_bounds: bool,
-    /// The key in the configuration that it may not have.
-    pub(crate) unknown: &'a str,
-    /// The file that could not be opened or read.
-    pub(crate) unread: &'a str,
+    /// The bounds of the inputs, if they are known.
+    pub(crate) limits: Option<Limits>,
+    /// The key in the configuration that it may not have, if it is known.
+    pub(crate) unknown: Option<&'a str>,
+    /// The file that could not be opened or read, if it is known.
+    pub(crate) unread: Option<&'a str>,
     /// Whether that file exists.
     pub(crate) has_unread: bool,
 }
@@ -205,30 +218,39 @@ fn write_configuration(
     } = *names;
     match error {
         ConfigError::Json => write!(text, "{config} is not a JSON text"),
-        ConfigError::Unknown if unknown.is_empty() => write!(text, "{config} has an unknown key"),
-        ConfigError::Unknown => write!(text, "{config} has the unknown key {unknown:?}"),
+        ConfigError::Unknown => write_unknown(text, unknown, config),
         ConfigError::Missing { key } => write!(text, "{config} lacks the key `{}`", key.name()),
         ConfigError::Kind {
             key: ConfigKey::Top,
         } => write!(text, "{config} is not a JSON object"),
-        ConfigError::Kind { key } => write_key(text, key, config, "has the wrong type"),
-        ConfigError::Range { key } => write_key(text, key, config, "is out of range"),
+        ConfigError::Kind { key } => {
+            let name = key.name();
+            let wanted = type_of(key);
+            write!(
+                text,
+                "`{name}` in {config} has the wrong type: expected {wanted}"
+            )
+        }
+        ConfigError::Range { key } => {
+            let name = key.name();
+            let wanted = range_of(key);
+            write!(
+                text,
+                "`{name}` in {config} is out of range: expected {wanted}"
+            )
+        }
         ConfigError::Threads => write!(text, "`cacheSize` is below `threads` in {config}"),
         ConfigError::Long => write!(text, "{config} has more than {MAX_LENGTH} bytes"),
         ConfigError::Memory => text.push_str(OUT_OF_MEMORY),
     }
 }
 
-// Writes the sentence of a key whose value is refused for this fault.
-fn write_key(
-    text: &mut String,
-    key: ConfigKey,
-    config: &str,
-    fault: &str,
-) -> Result<(), AllocError> {
-    let name = key.name();
-    let range = range_of(key);
-    write!(text, "`{name}` in {config} {fault}: expected {range}")
+// Writes the sentence of a key that a configuration may not have.
+fn write_unknown(text: &mut String, unknown: Option<&str>, config: &str) -> Result<(), AllocError> {
+    match unknown {
+        Some(key) => write!(text, "{config} has the unknown key {key:?}"),
+        None => write!(text, "{config} has an unknown key"),
+    }
 }
 
 // Writes the sentence of a LAS file that is refused.
@@ -258,18 +280,32 @@ fn around_file(fault: LasError) -> (&'static str, &'static str) {
     }
 }
 
-// Writes the sentence of a record that is not within the bounds, or not in stored units.
+// Writes the sentence of a record that is not within the bounds. What does not fit in 32 bits is outside all bounds.
 fn write_bounds(
     text: &mut String,
     number: PointNumber,
     names: &Names<'_>,
 ) -> Result<(), AllocError> {
-    let fault = if names.has_bounds {
-        "lies outside the bounds"
-    } else {
-        "has a stored coordinate that does not fit in 32 bits"
-    };
-    write!(text, "record {number} of {} {fault}", names.input)
+    let Names {
+        out,
+        input,
+        limits,
+        ..
+    } = *names;
+    write!(text, "record {number} of {input} ")?;
+    match limits {
+        Some(Limits::Given) => text.push_str("lies outside the bounds"),
+        Some(Limits::Kept) => write!(
+            text,
+            "lies outside the bounds that {out} keeps from its first build: build into a new folder"
+        ),
+        Some(Limits::Widest) => {
+            text.push_str("has a stored coordinate that does not fit in 32 bits")
+        }
+        None => text.push_str(
+            "lies outside the bounds, or has a stored coordinate that does not fit in 32 bits",
+        ),
+    }
 }
 
 // Writes the sentence of an input that has changed. Record 0 also means its header.
@@ -299,13 +335,15 @@ fn write_field(text: &mut String, field: Field, names: &Names<'_>) -> Result<(),
     }
 }
 
-// Writes the sentence of the body of a checkpoint.
+// Writes the sentence of the body of a checkpoint. If both bodies have one generation, that of b is named.
 fn write_checkpoint(text: &mut String, letter: Letter, out: &str) -> Result<(), AllocError> {
-    let name = match letter {
-        Letter::A => "body-a",
-        Letter::B => "body-b",
-    };
-    write!(text, "`ept-work/{name}` in {out} is missing or damaged")
+    match letter {
+        Letter::A => write!(text, "`ept-work/body-a` in {out} is missing or damaged"),
+        Letter::B => write!(
+            text,
+            "`ept-work/body-b` in {out} is missing or damaged, or has the same generation as `ept-work/body-a`"
+        ),
+    }
 }
 
 // Writes the sentence of a saved tile.
@@ -322,13 +360,10 @@ fn write_text(text: &mut String, key: &Key) -> Result<(), AllocError> {
 
 // Writes the sentence of a file that could not be opened or read.
 fn write_unread(text: &mut String, names: &Names<'_>) -> Result<(), AllocError> {
-    let file = names.unread;
-    if file.is_empty() {
-        text.push_str("a file could not be read")
-    } else if names.has_unread {
-        write!(text, "{file} could not be read")
-    } else {
-        write!(text, "{file} does not exist")
+    match names.unread {
+        None => text.push_str("a file could not be read"),
+        Some(file) if names.has_unread => write!(text, "{file} could not be read"),
+        Some(file) => write!(text, "{file} does not exist"),
     }
 }
 
@@ -364,17 +399,18 @@ fn fault_text(why: Fault) -> &'static str {
     }
 }
 
-/// Writes the sentence of a check of this folder that is refused.
+/// Writes the sentence of a check that is refused.
 pub(crate) fn write_check(
     text: &mut String,
     error: CheckError,
-    out: &str,
+    names: &Names<'_>,
 ) -> Result<(), AllocError> {
     match error {
-        CheckError::NotComplete => write_query(text, QueryError::NotComplete, out),
-        CheckError::StoreFault => write_query(text, QueryError::StoreFault, out),
+        CheckError::NotComplete => write_query(text, QueryError::NotComplete, names),
+        CheckError::StoreFault => write_query(text, QueryError::StoreFault, names),
         CheckError::Damaged { file } => {
-            write_query(text, QueryError::Damaged { file }, out)?;
+            let out = names.out;
+            write_query(text, QueryError::Damaged { file }, names)?;
             write!(
                 text,
                 ": restore it from a copy, or build {out} again in an empty folder"
@@ -384,13 +420,15 @@ pub(crate) fn write_check(
     }
 }
 
-/// Writes the sentence of a query of this folder, or a selection, that is refused.
+/// Writes the sentence of a query, or a selection, that is refused.
 pub(crate) fn write_query(
     text: &mut String,
     error: QueryError,
-    out: &str,
+    names: &Names<'_>,
 ) -> Result<(), AllocError> {
+    let out = names.out;
     match error {
+        QueryError::NotComplete if !names.has_out => write!(text, "{out} does not exist"),
         QueryError::NotComplete => write!(
             text,
             "{out} has no complete dataset: run its build, which also takes over a folder of an earlier version"

@@ -22,6 +22,7 @@ mod shelf;
 mod sink;
 mod source;
 mod store;
+mod streams;
 mod threaded_disk;
 mod unsynced;
 
@@ -38,4 +39,5 @@ pub use shelf::RealShelf;
 pub use sink::RealSink;
 pub use source::RealSource;
 pub use store::RealStore;
+pub use streams::HeldStreams;
 pub use threaded_disk::ThreadedDisk;

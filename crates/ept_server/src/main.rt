@@ -2,7 +2,7 @@
 #![tactic(auto)]
 
 use ept_listen::{Serve, serve_connections, serve_single, server_words};
-use ept_real::{PathFiles, RealFiles};
+use ept_real::{HeldStreams, PathFiles, RealFiles};
 use std::alloc::{AllocError, AllocGlobal};
 use std::env::{self, VarError};
 use std::io::{self, ErrorKind};
@@ -23,6 +23,8 @@ const FAULT: u8 = 7;
 const MEMORY: u8 = 9;
 
 fn main(rt: HostRuntime) -> ExitCode {
+    // Until the end no file and no connection has the number of a standard stream that is closed.
+    let _streams = HeldStreams::hold(&rt);
     let status = match given_words(&rt) {
         Ok(words) => run(&rt, &rt, &words),
         Err(error) => status_of(&error, USAGE),

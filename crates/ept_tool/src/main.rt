@@ -11,7 +11,7 @@ use ept_base::{OpenGate, Room, Shelf, Sink, Store};
 use ept_command::status::OK;
 use ept_command::{Command, Ended, Refusal, command_of};
 use ept_mem::{MemRoom, MemStore};
-use ept_real::{RealRoom, RealShelf, RealSink, RealStore, Run, SeenFiles, Telling};
+use ept_real::{HeldStreams, RealRoom, RealShelf, RealSink, RealStore, Run, SeenFiles, Telling};
 use ept_run::{carry_out, refuse};
 use std::alloc::{AllocError, Global};
 use std::env;
@@ -22,6 +22,8 @@ use std::sync::Wait;
 use std::thread::Threads;
 
 fn main(rt: HostRuntime) -> ExitCode {
+    // Until the end no file has the number of a standard stream that is closed.
+    let _streams = HeldStreams::hold(&rt);
     match given_words(&rt) {
         Ok(words) => run_words(&rt, &rt, &words),
         Err(refusal) => refuse_words(&rt, &[], refusal),
