@@ -56,7 +56,7 @@ impl Out {
         self.as_slice().is_empty()
     }
 
-    /// Removes the first `count` bytes, which were sent. Once all bytes are sent, the buffer is cleared.
+    /// Removes the first `count` bytes, which were sent. Once all bytes are sent, their memory is freed.
     pub fn send(&mut self, count: usize)
         requires { count ≤ length self.old }
         ensures { self.new ≡ drop count self.old }
@@ -67,11 +67,12 @@ impl Out {
         }
     }
 
-    /// Removes all bytes.
+    /// Removes all bytes, and frees their memory. So a connection that waits keeps no room for the largest response
+    /// that it sent.
     pub fn clear(&mut self)
         ensures { self.new ≡ [] }
     {
-        self.bytes.clear();
+        self.bytes = Vec::new(self.allocator());
         self.sent = 0;
     }
 

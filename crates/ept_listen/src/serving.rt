@@ -14,8 +14,9 @@ use std::sync::atomic::Ordering::SeqCst;
 use std::thread::{self, Threads};
 use std::time::{Duration, Instant};
 
-/// The most connections that are served at once. The others wait to be accepted.
-const MOST: u32 = 1024;
+/// The most connections that are served at once. The others wait to be accepted. Each may have a file open beside its
+/// socket, so a limit of 1,024 descriptors, which is usual, has room for all of them.
+const MOST: u32 = 500;
 
 /// The most bytes that are read after the last response.
 const REST: usize = 524_288;
@@ -23,7 +24,7 @@ const REST: usize = 524_288;
 /// How long all of these bytes may take, and how long each piece of them may take, in seconds.
 const REST_SECONDS: u64 = 5;
 
-/// Serves the connections that are accepted, at most 1,024 at once. Each has a thread of its own, and a store of its
+/// Serves the connections that are accepted, at most 500 at once. Each has a thread of its own, and a store of its
 /// own over the folder `out`.
 ///
 /// It serves `connections` of them, or serves without end if that is `None`. It stops listening when it has accepted

@@ -5,11 +5,11 @@ ghost use Rattle.std.specs.Prelude.{◌≤◌, length};
 /// The most bytes of a target that a line has.
 const MOST: usize = 256;
 
-/// The length of the head that these bytes begin with: up to its first empty line, or all of them if it has none.
+/// The length of the head that these bytes begin with: up to the first CR LF CR LF, or all of them if they have none.
 pub(crate) fn end_of_head(bytes: &[u8]) -> usize
     ensures { result ≤ length bytes.now }
 {
-    for at in start_of_head(bytes)..bytes.len() {
+    for at in 0..bytes.len() {
         if bytes[at..].starts_with(b"\r\n\r\n") {
             return bytes.len().min(at + 4);
         }
@@ -17,8 +17,8 @@ pub(crate) fn end_of_head(bytes: &[u8]) -> usize
     bytes.len()
 }
 
-// Where the first line that is not empty begins.
-fn start_of_head(bytes: &[u8]) -> usize
+/// Where the first line that is not empty begins.
+pub(crate) fn start_of_head(bytes: &[u8]) -> usize
     ensures { result ≤ length bytes.now }
 {
     for at in 0..bytes.len() {

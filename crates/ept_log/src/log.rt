@@ -1,6 +1,6 @@
 //! The requests of one connection.
 
-use crate::heads::{end_of_head, status_of, target_of};
+use crate::heads::{end_of_head, start_of_head, status_of, target_of};
 use std::alloc::{AllocError, Global};
 use std::time::{Clock, Instant};
 
@@ -83,10 +83,15 @@ impl<'a, R: Eprint + Clock> Log<'a, R> {
 
     /// Notes how the connection ended. A request that has no response becomes a line too, with `-` for its status.
     pub(crate) fn end(&mut self, how: &str) {
-        if self.response.is_none() && !self.came.is_empty() && how != "sent" {
+        if self.response.is_none() && self.has_request() && how != "sent" {
             self.response = self.begin("-").ok();
         }
         self.finish(how);
+    }
+
+    // Whether more than empty lines has come since the last response began.
+    fn has_request(&self) -> bool {
+        start_of_head(&self.came) < self.came.len()
     }
 
     // Begins the response to the first request that has come.

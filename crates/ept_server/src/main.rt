@@ -1,9 +1,10 @@
 //! `ept_server` serves a finished Entwine Point Tile folder over HTTP/1.1 (RFC 9112).
 #![tactic(auto)]
 
+use ept_base::GetError;
 use ept_listen::{Serve, serve_connections, serve_single, server_words};
 use ept_real::{HeldStreams, PathFiles, RealFiles};
-use std::alloc::{AllocError, AllocGlobal};
+use std::alloc::AllocGlobal;
 use std::env::{self, VarError};
 use std::io::{self, ErrorKind};
 use std::net::{Net, TcpListener};
@@ -62,10 +63,8 @@ fn listen<R>(rt: &R, host: &HostRuntime, out: &str, address: &str, serve: Serve)
 where
     R: Threads + Wait + Clock + Net + RandomSource + AllocGlobal,
 {
-    if !is_finished(host, out) {
-        let _ = eprintln!(host;
-            "ept_server: {out} holds no finished dataset: the response to every request will be 404 until it does"
-        );
+    if let Some(remark) = remark_on(host, out) {
+        let _ = eprintln!(host; "ept_server: {out} {remark}");
     }
     match TcpListener::bind(host, address) {
         Ok(listener) => match serve_on(rt, host, listener, out, serve) {
@@ -99,24 +98,22 @@ fn has_log(host: &HostRuntime) -> bool {
     !matches!(env::var(host, "EPT_LOG"), Err(VarError::NotPresent))
 }
 
-// Whether the folder's gate is open.
-fn is_finished(host: &HostRuntime, out: &str) -> bool {
-    match gate_of(host, out) {
-        Ok(gate) => is_open(host, gate.as_str()),
-        Err(_) => false,
+// What to say of the folder before it is served, or `None` if its gate is open.
+fn remark_on(host: &HostRuntime, out: &str) -> Option<&'static str> {
+    match gate_in(host, out) {
+        Ok(Some(gate)) if gate.as_slice() == [1].as_slice() => None,
+        Ok(_) => Some(
+            "holds no finished dataset: the response to every request will be 404 until it does",
+        ),
+        Err(_) => Some("can't be read: the response to every request will be 503 until it can"),
     }
 }
 
-fn is_open(host: &HostRuntime, gate: &str) -> bool {
-    match RealFiles::new(host).read(host.alloc(), gate) {
-        Ok(Some(bytes)) => bytes.as_slice() == [1].as_slice(),
-        _ => false,
-    }
-}
-
-fn gate_of(host: &HostRuntime, out: &str) -> Result<String, AllocError> {
+// The bytes of the folder's gate, or `None` if it has none.
+fn gate_in(host: &HostRuntime, out: &str) -> Result<Option<Vec<u8>>, GetError> {
     let folder = if out.is_empty() { "." } else { out };
-    format!(in host.alloc(); "{folder}/ept-work/done-2")
+    let gate = format!(in host.alloc(); "{folder}/ept-work/done-2")?;
+    RealFiles::new(host).read(host.alloc(), gate.as_str())
 }
 
 // Says what failed, and returns the status.

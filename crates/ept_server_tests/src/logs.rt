@@ -16,7 +16,7 @@ type Row = (
     &'static str,
 );
 
-static ROWS: [Row; 10] = [
+static ROWS: [Row; 12] = [
     (
         b"GET /ept.json HTTP/1.1\r\nHost: a\r\n\r\n",
         [b"HTTP/1.1 200 OK\r\n\r\n{}", b""],
@@ -70,6 +70,14 @@ static ROWS: [Row; 10] = [
         "link-fault",
         "peer /a - 0 1 link-fault\n",
     ),
+    // The head that is refused ends at its first empty line, before any request.
+    (
+        b"\r\n\r\nGET /a HTTP/1.1\r\n\r\n",
+        [b"HTTP/1.1 400 Bad Request\r\n\r\n", b""],
+        "sent",
+        "peer - 400 28 1 sent\n",
+    ),
+    (b"\r\n", [b"", b""], "link-fault", ""),
     (b"GET /a HT", [b"", b""], "sent", ""),
     (b"", [b"", b""], "sent", ""),
 ];

@@ -1,9 +1,10 @@
 //! What is said of a run that fails.
 
-use ept_command::{Command, Ended, Failure, command_of};
+use ept_command::{Command, Ended, Failure, Refusal, command_of};
 use ept_messages::{Found, OUT_OF_MEMORY, message};
 use ept_real::{RealShelf, RealStore};
-use std::alloc::AllocError;
+use std::alloc::{AllocError, Global};
+use std::fmt::Write;
 use std::io::ErrorKind;
 use std::rt::Files;
 
@@ -36,7 +37,31 @@ fn sentence(
     };
     let mut shelf = RealShelf::new(alloc, disk);
     let mut store = RealStore::new(alloc, disk, folder);
-    message(alloc, words, failure, &found, &mut shelf, &mut store)
+    let text = message(alloc, words, failure, &found, &mut shelf, &mut store)?;
+    match failure {
+        // The usage has a line for each command, and nothing that was given.
+        Failure::Refused(Refusal::Usage) => Ok(text),
+        _ => in_one_line(alloc, text.as_str()),
+    }
+}
+
+// A text whose characters that would steer a terminal, or end the line, are escaped. A path may have such characters.
+fn in_one_line(alloc: Global, text: &str) -> Result<String, AllocError> {
+    let mut line = String::new(alloc);
+    for letter in text.chars() {
+        if steers(letter) {
+            write!(line, "{}", letter.escape_unicode())?;
+        } else {
+            line.push(letter)?;
+        }
+    }
+    Ok(line)
+}
+
+// Whether a character is a control character, ends a line, or changes the direction of the text.
+fn steers(letter: char) -> bool {
+    letter.is_control()
+        || matches!(letter, '\u{200e}' | '\u{200f}' | '\u{2028}'..='\u{202e}' | '\u{2066}'..='\u{2069}')
 }
 
 // Whether there is a file or a folder of this path.

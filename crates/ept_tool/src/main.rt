@@ -42,9 +42,14 @@ fn given_words(rt: &HostRuntime) -> Result<Vec<String>, Refusal> {
     }
 }
 
-// Refuses the words before anything was begun.
+// Refuses the words before anything was begun. A query, a selection and a check write no line if memory runs out.
 fn refuse_words(disk: &HostRuntime, words: &[String], refusal: Refusal) -> ExitCode {
-    let ended = refuse(disk.alloc(), &mut RealSink::new(writer(disk)), refusal);
+    let ended = match command_of(words) {
+        Command::Query { .. } | Command::Select { .. } | Command::Check { .. } => {
+            Ended::refused(&refusal)
+        }
+        _ => refuse(disk.alloc(), &mut RealSink::new(writer(disk)), refusal),
+    };
     report(disk, words, &ended, None);
     ExitCode::from(ended.status)
 }
