@@ -1,9 +1,9 @@
 """Manual pages for the programs and scripts, made of the documents.
 
-A page is a list of sections of README.md and docs/*.md, converted from Markdown to the form of man(7). One section is the
-manual of a script. So the keys, the ranges and the statuses are written once, in the documents. `pages` returns the
-text of each page by its name. Names of commands are those of the package: `./ept build` becomes `ept_tool build`, and `tools/view`
-becomes `ept-view`.
+A page is a list of sections of README.md and docs/*.md, converted from Markdown to the form of man(7). One section is
+the manual of a script. So the keys, the ranges and the statuses are written once, in the documents. `pages` returns the
+text of each page by its name. Names of commands are those of the package: `./ept build` becomes `ept_tool build`, and
+`tools/view` becomes `ept-view`.
 """
 
 import ast
@@ -16,7 +16,8 @@ USE, FORMATS, README = "docs/USE.md", "docs/FORMATS.md", "README.md"
 PAGES = {
     "ept_tool.1": ("builds and queries Entwine Point Tile datasets", [
         ("COMMANDS", USE, "The commands"), ("PROGRESS", USE, "Progress"),
-        ("RESUMING AND ADDING FLIGHTS", USE, "Resuming and adding flights"), ("MEMORY AND THREADS", USE, "Memory and threads"),
+        ("RESUMING AND ADDING FLIGHTS", USE, "Resuming and adding flights"), ("PARTS OF A BUILD", USE, "Parts of a build"),
+        ("DATASETS OF AN EARLIER VERSION", USE, "Datasets of an earlier version"), ("MEMORY AND THREADS", USE, "Memory and threads"),
         ("QUERIES", USE, "Queries"), ("CHECKING A DATASET", USE, "Checking a dataset"), ("TRIALS", USE, "Trials"), ("EXIT STATUS", README, "Exit statuses"), ("OUTPUT", FORMATS, "The lines")]),
     "ept-configuration.5": ("the configuration of a build of ept_tool", [
         ("KEYS", USE, "The configuration"), ("VALUES", FORMATS, "The configuration")]),
@@ -28,7 +29,8 @@ PAGES = {
     "ept-alias.1": ("makes a folder of links to a dataset for a program that misreads it", [("USAGE", "tools/alias", None)]),
 }
 SYNOPSES = {
-    "ept-configure.1": "ept-configure [--scale K] [--bounds MARGIN] [--srs SYSTEM] [--first-classes CLASSES] [--withheld-last] FLIGHT.las..\n"
+    "ept-configure.1": "ept-configure [--scale K] [--bounds MARGIN] [--srs SYSTEM] [--memory MEGABYTES] [--first-classes CLASSES]\n"
+                       "    [--withheld-last] FLIGHT.las..\n"
                        "ept-configure --check CONFIG\nept-configure --add CONFIG NEW.las..",
     "ept-view.1": "ept-view OUT PAGE [FROM]", "ept-points.1": "ept-points OUT las|csv|svg < POINTS > FILE",
     "ept-alias.1": "ept-alias OUT NEW --for pdal-2|qgis",
