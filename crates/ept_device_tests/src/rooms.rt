@@ -47,6 +47,33 @@ fn spill_files_hold_what_was_kept_last(rt: HostRuntime) -> Result<(), Fail> {
     Ok(())
 }
 
+// Files in the room's folder, and whether they have the name of a spill file.
+static LEFT: [(&str, bool); 6] = [
+    ("spill/7.bin", true),
+    ("spill/4294967295.bin", true),
+    ("spill/.bin", false),
+    ("spill/-7.bin", false),
+    ("spill/7.bin.las", false),
+    ("spill/flight.las", false),
+];
+
+#[test]
+fn a_room_removes_spill_files_alone(rt: HostRuntime) -> Result<(), Fail> {
+    enter(&rt, "others")?;
+    fs::create_dir(&rt, "spill")?;
+    for (path, _) in LEFT {
+        fs::write(&rt, path, "left by somebody")?;
+    }
+    let mut room = RealRoom::new(rt.alloc(), &rt, "spill");
+    let file = room.make(1)?;
+    for (path, is_spill) in LEFT {
+        assert!(rt; fs::exists(&rt, path)? != is_spill);
+    }
+    room.retire(file);
+    assert!(rt; fs::exists(&rt, "spill/flight.las")?);
+    Ok(())
+}
+
 #[test]
 fn a_spill_file_that_fails_is_a_fault(rt: HostRuntime) -> Result<(), Fail> {
     enter(&rt, "no_room")?;

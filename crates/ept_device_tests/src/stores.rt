@@ -5,7 +5,8 @@ use crate::folder::enter;
 use ept_base::{GetError, PutError, Store};
 use ept_real::RealStore;
 use std::alloc::AllocError;
-use std::fs;
+use std::fs::{self, DirBuilder};
+use std::os::unix::fs::DirBuilderExt;
 use std::process::Abort;
 use std::rt::Files;
 use std::test::Fail;
@@ -172,12 +173,12 @@ static WAYS: [(&str, &str, &str); 4] = [
     (
         "there/out",
         "a/b/file",
-        "there/out/a/b/file\nthere\nthere/out/\nthere/out/a\nthere/out/a/b\n",
+        "there/out/a/b/file\n.\nthere\nthere/out/\nthere/out/a\nthere/out/a/b\n",
     ),
     (
         "there/new/far/",
         "file",
-        "there/new/far//file\nthere\nthere/new\nthere/new/far//\n",
+        "there/new/far//file\n.\nthere\nthere/new\nthere/new/far//\n",
     ),
 ];
 
@@ -189,6 +190,35 @@ fn a_sync_flushes_the_way_to_a_file(rt: HostRuntime) -> Result<(), Fail> {
         let steps = [Step::Put(name, b"one"), Step::Sync(want)];
         take_on_disk(&rt, &rt, 0, folder, &steps, "")?;
     }
+    Ok(())
+}
+
+static FAR: [Step; 2] = [
+    Step::Put("file", b"x"),
+    Step::Sync("shut/in/out/file\n.\nshut/in\nshut/in/out/\n"),
+];
+
+static NEAR: [Step; 2] = [Step::Put("file", b"x"), Step::FailSync];
+
+// A folder that must not be read is passed over, unless the store's folder is directly in it.
+#[test]
+fn a_folder_far_above_may_be_shut(rt: HostRuntime) -> Result<(), Fail> {
+    enter(&rt, "shut")?;
+    DirBuilder::new().mode(0o311).create(&rt, "shut")?;
+    fs::create_dir(&rt, "shut/in")?;
+    take_on_disk(&rt, &rt, 0, "shut/in/out", &FAR, "")?;
+    take_on_disk(&rt, &rt, 0, "shut/out", &NEAR, "shut/out/file\n.\n")?;
+    Ok(())
+}
+
+// A folder has no bytes, though it can be opened.
+#[test]
+fn a_folder_can_not_be_got(rt: HostRuntime) -> Result<(), Fail> {
+    enter(&rt, "got")?;
+    fs::create_dir_all(&rt, "out/file")?;
+    let mut into = Vec::new(rt.alloc());
+    let mut store = RealStore::new(rt.alloc(), &rt, "out");
+    assert!(rt; store.get("file", &mut into) == Err(GetError::Failed));
     Ok(())
 }
 

@@ -6,7 +6,7 @@ ghost use Rattle.futures.specs.Task.{Covers, IsArmed, Keeps};
 use crate::accepting::{PAUSE, is_passing};
 use crate::logging::{how_ended, log_of};
 use ept_conn::End;
-use ept_crowd::Crowd;
+use ept_crowd::{AddError, Crowd};
 use ept_log::WatchedLink;
 use ept_poll::PollConn;
 use ept_real::{ReadStore, RealFiles};
@@ -214,10 +214,18 @@ impl<'a, R: Clock> Serving<'a, R> {
         }
     }
 
+    // Adds a connection to the crowd. A crowd that has had 4,294,967,295 connections takes no other, so a new one follows
+    // it as soon as none of its connections is live.
     fn join(&mut self, link: Watched<'a, R>) {
         let alloc = self.host.alloc();
         let store = ReadStore::new(alloc, RealFiles::new(self.host), self.out);
-        let _ = self.crowd.add(PollConn::new(alloc, link, store, TURNS));
+        let conn = PollConn::new(alloc, link, store, TURNS);
+        if let Err(AddError::Spent(conn)) = self.crowd.add(conn) {
+            if self.crowd.live() == 0 {
+                self.crowd = Crowd::new(alloc);
+                let _ = self.crowd.add(conn);
+            }
+        }
     }
 
     // Handles a failed accept: it is tried again after a pause, or the listener is closed.

@@ -52,7 +52,7 @@ fn note_came<R: Eprint + Clock>(log: &mut Option<Log<'_, R>>, bytes: &[u8]) {
     }
 }
 
-// Notes that this number of these bytes was sent.
+// Notes that this number of these bytes was sent: none if the link has failed.
 fn note_sent<R: Eprint + Clock>(log: &mut Option<Log<'_, R>>, piece: &[u8], count: usize) {
     if let Some(log) = log {
         log.sent(piece, count);
@@ -74,9 +74,9 @@ impl<'a, L: Link, R: Eprint + Clock> Link for WatchedLink<'a, L, R> {
     }
 
     fn write(&mut self, from: &[u8]) -> Result<usize, Failed> {
-        let count = self.link.write(from)?;
-        note_sent(&mut self.log, from, count);
-        Ok(count)
+        let written = self.link.write(from);
+        note_sent(&mut self.log, from, written.unwrap_or(0));
+        written
     }
 }
 
@@ -103,12 +103,10 @@ impl<'a, L: PollLink, R: Eprint + Clock> PollLink for WatchedLink<'a, L, R> {
     }
 
     fn poll_write(&mut self, cx: &mut Context<'_>, from: &[u8]) -> Poll<Result<usize, Failed>> {
-        match self.link.poll_write(cx, from) {
-            Poll::Ready(Ok(count)) => {
-                note_sent(&mut self.log, from, count);
-                Poll::Ready(Ok(count))
-            }
-            other => other,
+        let polled = self.link.poll_write(cx, from);
+        if let Poll::Ready(written) = polled {
+            note_sent(&mut self.log, from, written.unwrap_or(0));
         }
+        polled
     }
 }

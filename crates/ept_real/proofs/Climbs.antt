@@ -1,8 +1,6 @@
 -- Going up from a path, folder by folder.
-use Rattle.std.proofs.Common.{◌≡◌, ◌⊎◌, ℕ, List, Option, Some, None, inl, inr, refl, sym, ap, ◌∙◌, subst}
+use Rattle.std.proofs.Common.{◌≡◌, ◌⊎◌, ℕ, List, Option, Some, None, inl, inr, refl, sym, ◌∙◌, subst}
 use Rattle.std.specs.Path.{path_parent}
-use Rattle.std.specs.Prelude.{Contains, option_map}
-use Rattle.ept_real.specs.Joined.{folder_path}
 use Rattle.ept_real.specs.Ways.{IsAbove}
 use Rattle.ept_real.specs.Ways.IsAbove.{parent, further}
 
@@ -28,12 +26,3 @@ left_next last above before next is e h = left_cases last above next e (subst (�
     left_cases : (last above : List ℕ) (next : Option (List ℕ)) → next ≡ path_parent last → IsLeft (Some last) above → (above ≡ last) ⊎ IsLeft next above
     left_cases last above next e (inl h) = inl h
     left_cases last above next e (inr up) = inr (left_up last above next e up)
-
--- The folder of the path that was taken is there, by the text that was added. So what was there or was to be taken is
--- there.
-pub taken : (last text added path : List ℕ) (before : Option (List ℕ)) (old new : List (List ℕ)) → Some last ≡ before → text ≡ last → added ≡ folder_path text → Contains new added → ((other : List ℕ) → Contains old other → Contains new other) → Contains old path ⊎ (option_map folder_path before ≡ Some path) → Contains new path
-taken last text added path before old new is same e has still (inl h) = still path h
-taken last text added path before old new is same e has still (inr h) =
-    let first : Some (folder_path last) ≡ Some path = ap (option_map folder_path) is ∙ h in
-    let one : folder_path last ≡ path = cc first in
-    subst (Contains new) (e ∙ ap folder_path same ∙ one) has

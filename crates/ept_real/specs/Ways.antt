@@ -1,5 +1,5 @@
 -- Sets of paths, and the folders on the way to a name.
-use Rattle.std.specs.Prelude.{◌≡◌, ◌≢◌, ◌⊎◌, ℕ, List, Contains, Some, option_map}
+use Rattle.std.specs.Prelude.{◌≡◌, ◌≢◌, ◌⊎◌, ℕ, List, Contains, Some}
 use Rattle.std.specs.Path.{path_parent}
 use Rattle.ept_real.specs.Joined.{joined, folder_path}
 
@@ -16,11 +16,11 @@ pub data IsAbove : List ℕ → List ℕ → Type 0 where
   parent : {path above : List ℕ} → path_parent path ≡ Some above → IsAbove path above
   further : {path between above : List ℕ} → path_parent path ≡ Some between → IsAbove between above → IsAbove path above
 
--- the folder that a folder is in; the root is in none
+-- A folder that a folder is in, directly or not, as far as its path says. The root is in none.
 abbrev pub IsHolder : List ℕ → List ℕ → Type 0
-IsHolder folder path = option_map folder_path (path_parent folder) ≡ Some path
+IsHolder folder path = (above : List ℕ) × IsAbove folder above × (path ≡ folder_path above)
 
 -- The folders whose entries lead to a name of a store in this folder. They are the folder itself, those below it on the
--- way, and the one that it is in.
+-- way, and those that it is in.
 abbrev pub IsOnWay : List ℕ → List ℕ → List ℕ → Type 0
 IsOnWay folder name path = IsHolder folder path ⊎ ((above : List ℕ) × IsAbove name above × (path ≡ joined folder above))

@@ -33,7 +33,7 @@ pub use progress::{Ending, Run, Telling};
 pub use read_store::ReadStore;
 pub use real_disk::RealDisk;
 pub use real_files::RealFiles;
-pub use room::{RealRoom, RealSpill};
+pub use room::{RealRoom, RealSpill, remove_spills};
 pub use seen_files::{SeenFile, SeenFiles};
 pub use shelf::RealShelf;
 pub use sink::RealSink;

@@ -4,9 +4,10 @@ ghost use Rattle.ept_base.specs.Devices.{counts_on};
 use crate::paths::path_in;
 use crate::real_disk::{overwrite_file, read_file, remove_file};
 use ept_base::{Failed, PutError, Room, SpillFile};
-use std::alloc::{AllocError, Global};
-use std::rt::Files;
-use std::{fs, io};
+use std::alloc::{AllocError, Allocator, Global};
+use std::fs::{self, DirEntry};
+use std::io;
+use std::rt::{Alloc, Files};
 
 /// A spill file in a folder of the machine. It is there from its first `keep` on, until its room takes it back, and is
 /// open only within a call. A spill file that was never kept is empty.
@@ -90,9 +91,35 @@ impl<'a, R: Files> SpillFile for RealSpill<'a, R> {
     }
 }
 
+/// Removes the spill files that a program left in a folder when it was stopped, and the folder, if nothing else is in
+/// it. What can't be removed stays.
+pub fn remove_spills<R: Files + Alloc + Clone + Drop>(files: &R, folder: &str) {
+    if let Ok(entries) = fs::read_dir(files, folder) {
+        for entry in entries {
+            let _ = entry.map(|entry| remove_spill(files, &entry));
+        }
+    }
+    let _ = fs::remove_dir(files, folder);
+}
+
+// Removes what has the name of a spill file.
+fn remove_spill<R: Files, A: Allocator>(files: &R, entry: &DirEntry<R, A>) {
+    if is_spill_name(entry.file_name()) {
+        let _ = fs::remove_file(files, entry.path());
+    }
+}
+
+// Whether a name is that of a spill file: a number and `.bin`.
+fn is_spill_name(name: &str) -> bool {
+    match name.strip_suffix(".bin") {
+        Some(slot) => !slot.is_empty() && slot.bytes().all(|byte| byte.is_ascii_digit()),
+        None => false,
+    }
+}
+
 /// A folder of the machine for spill files. It is made at the first `keep` of one, and removed with the last one that
-/// is taken back. What an earlier program left there, which was stopped, is removed before the first file is made. So a
-/// room is never the folder in which the program runs: with an empty path it makes no file.
+/// is taken back, if nothing else is in it. The spill files that an earlier program left there, which was stopped, are
+/// removed before the first file is made. With an empty path a room makes no file.
 #[derive(Drop)]
 pub struct RealRoom<'a, R: Files> {
     files: &'a R,
@@ -139,7 +166,7 @@ impl<'a, R: Files> RealRoom<'a, R> {
     }
 }
 
-impl<'a, R: Files> Room for RealRoom<'a, R> {
+impl<'a, R: Files + Alloc + Clone + Drop> Room for RealRoom<'a, R> {
     type File = RealSpill<'a, R>;
 
     ghost use Rattle.std.specs.Prelude.{◌≢◌, ◌≤◌, [], OnErr, Err};
@@ -167,8 +194,7 @@ impl<'a, R: Files> Room for RealRoom<'a, R> {
             return Err(PutError::Failed);
         }
         if self.out == 0 {
-            // What can't be removed is replaced at the first `keep`.
-            let _ = self.files.remove_dir_all(self.alloc, self.folder);
+            remove_spills(self.files, self.folder);
         }
         self.out = self.out.saturating_add(1);
         Ok(RealSpill {

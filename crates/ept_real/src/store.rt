@@ -23,8 +23,9 @@ use std::thread::Threads;
 /// `sync` flushes the files that were put, and those that were got and that this store has not flushed yet. Another
 /// program may have written the latter, and been stopped before it flushed them. Its disk flushes them, one after another
 /// or in several threads. After all files, the folders on the way to each name that was put, got or removed are flushed,
-/// one after another. These are the folders below the store's folder, the store's folder, the one that it is in, and any
-/// above that had to be made. So each of these folders must be readable.
+/// one after another. These are the folders below the store's folder, the store's folder, and those that it is in, as
+/// far as its path says. The store's folder and the one that it is in must be readable. One further above that must not
+/// be read is passed over.
 ///
 /// After a refused `sync` each later one is refused. The system reports a lost write only once, and may then act as if
 /// nothing had been lost.
@@ -179,7 +180,7 @@ impl<'a, R: Files, D: PathDisk + Drop> RealStore<'a, R, D> {
         ensures names { names_to_flush self.new ≡ names_to_flush self.old }
         ensures same { self.new ≡ record self.old { unsynced = self.new.unsynced } }
     {
-        self.unsynced.note_way(self.files, self.folder, name)
+        self.unsynced.note_way(self.folder, name)
     }
 
     /// The file of this name, which was read, is to be flushed, unless this store has flushed it.
@@ -261,7 +262,7 @@ impl<'a, R: Files, D: PathDisk + Drop> RealStore<'a, R, D> {
             return Err(Failed);
         };
         self.disk.flush(self.alloc, paths.as_slice())?;
-        self.unsynced.flush_folders(self.files)
+        self.unsynced.flush_folders(self.files, self.folder)
     }
 }
 

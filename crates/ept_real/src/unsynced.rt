@@ -1,6 +1,6 @@
 ghost use Rattle.std.specs.Prelude.{◌≡◌, ℕ, List, [], Contains, IfOk, OnOk, map, string_bytes};
-ghost use Rattle.ept_real.specs.Joined.{joined};
-ghost use Rattle.ept_real.specs.Ways.{Keeps, IsAbove, IsHolder, IsOnWay};
+ghost use Rattle.ept_real.specs.Joined.{joined, folder_path};
+ghost use Rattle.ept_real.specs.Ways.{Keeps, IsAbove, IsOnWay};
 
 use crate::path_set::PathSet;
 use crate::paths::{or_here, path_in};
@@ -34,25 +34,20 @@ impl Unsynced {
     }
 
     /// The folders on the way to a name in this folder are to be flushed. They are those that the name goes through,
-    /// this folder, and the one that it is in. Each one above that is among them too, up to the first that is there.
-    pub(crate) fn note_way(
-        &mut self,
-        files: &impl Files,
-        folder: &str,
-        name: &str,
-    ) -> Result<(), AllocError>
+    /// this folder, and those that it is in.
+    pub(crate) fn note_way(&mut self, folder: &str, name: &str) -> Result<(), AllocError>
         ensures ok { OnOk result ((path : List ℕ) → IsOnWay folder.now name.now path → Contains self.new.folders path) }
         ensures still { Keeps self.old.folders self.new.folders }
         ensures names { self.new.names ≡ self.old.names }
     {
-        self.note_above(files, folder)?;
+        self.note_above(folder)?;
         self.note_below(folder, name)
     }
 
-    /// The folder that this folder is in is to be flushed, and each one above it up to the first that
-    /// is there.
-    fn note_above(&mut self, files: &impl Files, folder: &str) -> Result<(), AllocError>
-        ensures ok { OnOk result ((path : List ℕ) → IsHolder folder.now path → Contains self.new.folders path) }
+    /// The folders that this folder is in are to be flushed, as far as its path says. A program that was stopped may
+    /// have made each of them, or the spill files of this one.
+    fn note_above(&mut self, folder: &str) -> Result<(), AllocError>
+        ensures ok { OnOk result ((above : List ℕ) → IsAbove folder.now above → Contains self.new.folders (folder_path above)) }
         ensures still { Keeps self.old.folders self.new.folders }
         ensures names { self.new.names ≡ self.old.names }
     {
@@ -62,9 +57,6 @@ impl Unsynced {
         for above in holder.ancestors() {
             let path = or_here(above.as_str());
             self.folders.add(path)?;
-            if Path::new(path).exists(files) {
-                return Ok(());
-            }
         }
         Ok(())
     }
@@ -96,22 +88,49 @@ impl Unsynced {
         Ok(paths)
     }
 
-    /// Flushes the entries of the folders, one after another.
-    pub(crate) fn flush_folders(&self, files: &impl Files) -> Result<(), Failed> {
+    /// Flushes the entries of the folders, one after another, for a store in this folder. A folder far above it that
+    /// must not be read is passed over.
+    pub(crate) fn flush_folders(&self, files: &impl Files, folder: &str) -> Result<(), Failed> {
         for path in self.folders.paths() {
-            flush_folder(files, path.as_str()).map_err(|_| Failed)?;
+            match flush_folder(files, path.as_str()) {
+                Ok(()) => {}
+                Err(error) if is_shut(&error) && is_far_above(folder, path.as_str()) => {}
+                Err(_) => return Err(Failed),
+            }
         }
         Ok(())
     }
 }
 
+/// Whether a folder must not be read.
+fn is_shut(error: &io::Error) -> bool {
+    error.kind() == ErrorKind::PermissionDenied
+}
+
+/// Whether a folder is in another, but not directly.
+fn is_far_above(folder: &str, path: &str) -> bool {
+    Path::new(folder)
+        .ancestors()
+        .skip(2)
+        .any(|above| or_here(above.as_str()) == path)
+}
+
 /// Flushes the entries of a folder. A folder that is not there has none.
 fn flush_folder(files: &impl Files, path: &str) -> io::Result<()> {
     match fs::open(files, path) {
-        Ok(folder) => folder.sync_all(),
+        Ok(folder) => flush_entries(&folder),
         Err(error) => match error.kind() {
             ErrorKind::NotFound | ErrorKind::NotADirectory => Ok(()),
             _ => Err(error),
         },
+    }
+}
+
+/// Flushes the entries of an open folder. A file system that has no flush of folders refuses it as invalid, as those do
+/// that can't be written.
+fn flush_entries(folder: &impl OpenFile) -> io::Result<()> {
+    match folder.sync_all() {
+        Err(error) if error.kind() == ErrorKind::InvalidInput => Ok(()),
+        flushed => flushed,
     }
 }

@@ -15,14 +15,14 @@ use Rattle.ept_run.specs.Lines.{fit_text, unfit_text}
 use Rattle.ept_run.specs.Answers.{Says, IsSaid, IsUnwritten}
 
 -- The status of a check with this result, and its line. The sink has gained the line, or a prefix of it if the sink
--- failed. Out of memory has no line.
+-- failed.
 abbrev pub SaysCheck : Answer → ℕ → Option (List ℕ) → Option (List ℕ) → Type 0 → Type 0
 SaysCheck (Ok (Fit points nodes)) status old new failed = IsSaid (fit_text points nodes) status old new failed
 SaysCheck (Ok (Unfit key why)) status old new failed = (status ≡ 8) × Says (unfit_text key why) old new failed
 SaysCheck (Err NotComplete) status old new failed = (status ≡ 6) × Says (codes "error 6 complete\n") old new failed
 SaysCheck (Err StoreFault) status old new failed = (status ≡ 7) × Says (codes "error 7 store\n") old new failed
 SaysCheck (Err (Damaged file)) status old new failed = (status ≡ 8) × Says (codes "error 8 damaged\n") old new failed
-SaysCheck (Err Memory) status old new failed = (status ≡ 9) × (new ≡ old)
+SaysCheck (Err Memory) status old new failed = (status ≡ 9) × Says (codes "error 9 memory\n") old new failed
 
 -- why it does not end with status 0: a fit dataset is no failure, unless its line could not be written
 abbrev pub FailsCheck : Answer → Option Failure → Type 0

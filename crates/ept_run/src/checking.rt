@@ -11,7 +11,9 @@ ghost use Rattle.ept_run.specs.Answers.{Says};
 ghost use Rattle.ept_run.specs.Checks.{EndsCheck, FailsCheck, IsCheckReported};
 
 use crate::answers::{say, write_line};
-use crate::lines::{DAMAGED_LINE, NOT_COMPLETE_LINE, STORE_LINE, fit_line, unfit_line};
+use crate::lines::{
+    DAMAGED_LINE, MEMORY_LINE, NOT_COMPLETE_LINE, STORE_LINE, fit_line, unfit_line,
+};
 use ept_base::{Sink, Store};
 use ept_check::{CheckError, Fault, Verdict, check};
 use ept_command::status::{DAMAGED, DEVICE, MEMORY, NOT_COMPLETE};
@@ -82,7 +84,7 @@ fn report_unfit<O: Sink>(alloc: Global, out: &mut O, key: &Key, why: Fault) -> E
     }
 }
 
-// Writes the line of a check that is refused. Out of memory has none.
+// Writes the line of a check that is refused. It takes no memory.
 fn report_refused<O: Sink>(out: &mut O, error: CheckError) -> Ended
     ensures { IsCheckReported (Err error) result.status result.failure (O.written out.old) (O.written out.new) (Rose (O.faults out.old) (O.faults out.new)) }
 {
@@ -90,10 +92,7 @@ fn report_refused<O: Sink>(out: &mut O, error: CheckError) -> Ended
         CheckError::NotComplete => refuse_with(out, NOT_COMPLETE, NOT_COMPLETE_LINE, error),
         CheckError::StoreFault => refuse_with(out, DEVICE, STORE_LINE, error),
         CheckError::Damaged { .. } => refuse_with(out, DAMAGED, DAMAGED_LINE, error),
-        CheckError::Memory => Ended {
-            status: MEMORY,
-            failure: Some(Failure::CheckRefused(error)),
-        },
+        CheckError::Memory => refuse_with(out, MEMORY, MEMORY_LINE, error),
     }
 }
 

@@ -48,8 +48,7 @@ use std::thread::Threads;
 /// - `trial N WORKERS CACHE` builds the octree of generated scans of N points in memory, and writes to the sink what
 ///   it comes to.
 ///
-/// A refusal is one line on the sink. A query or a selection that is refused writes no line, nor does a check that is
-/// out of memory.
+/// A refusal is one line on the sink. A query or a selection that is refused writes no line.
 pub fn run<H: Shelf, T: Store, M: Room, O: Sink, G: Gate + Sync, R: Threads + Wait + Sync>(
     rt: &R,
     alloc: Global,

@@ -102,10 +102,8 @@ fn has_log(host: &HostRuntime) -> bool {
 fn remark_on(host: &HostRuntime, out: &str) -> Option<&'static str> {
     match gate_in(host, out) {
         Ok(Some(gate)) if gate.as_slice() == [1].as_slice() => None,
-        Ok(_) => Some(
-            "holds no finished dataset: the response to every request will be 404 until it does",
-        ),
-        Err(_) => Some("can't be read: the response to every request will be 503 until it can"),
+        Ok(_) => Some("holds no finished dataset: a request for a file will get 404 until it does"),
+        Err(_) => Some("can't be read: a request for a file will get 503 until it can"),
     }
 }
 

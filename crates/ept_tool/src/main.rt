@@ -11,7 +11,9 @@ use ept_base::{OpenGate, Room, Shelf, Sink, Store};
 use ept_command::status::OK;
 use ept_command::{Command, Ended, Refusal, command_of};
 use ept_mem::{MemRoom, MemStore};
-use ept_real::{HeldStreams, RealRoom, RealShelf, RealSink, RealStore, Run, SeenFiles, Telling};
+use ept_real::{
+    HeldStreams, RealRoom, RealShelf, RealSink, RealStore, Run, SeenFiles, Telling, remove_spills,
+};
 use ept_run::{carry_out, refuse};
 use std::alloc::{AllocError, Global};
 use std::env;
@@ -42,12 +44,10 @@ fn given_words(rt: &HostRuntime) -> Result<Vec<String>, Refusal> {
     }
 }
 
-// Refuses the words before anything was begun. A query, a selection and a check write no line if memory runs out.
+// Refuses the words before anything was begun. A query and a selection write no line if memory runs out.
 fn refuse_words(disk: &HostRuntime, words: &[String], refusal: Refusal) -> ExitCode {
     let ended = match command_of(words) {
-        Command::Query { .. } | Command::Select { .. } | Command::Check { .. } => {
-            Ended::refused(&refusal)
-        }
+        Command::Query { .. } | Command::Select { .. } => Ended::refused(&refusal),
         _ => refuse(disk.alloc(), &mut RealSink::new(writer(disk)), refusal),
     };
     report(disk, words, &ended, None);
@@ -185,7 +185,7 @@ where
     if ended.status == OK {
         // Removes what is left of a build that was killed as it ended. If nothing is to be done, no room is asked for a
         // file.
-        let _ = disk.remove_dir_all(alloc, spill);
+        remove_spills(disk, spill);
     }
     ended
 }
