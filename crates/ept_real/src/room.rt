@@ -7,7 +7,7 @@ use ept_base::{Failed, PutError, Room, SpillFile};
 use std::alloc::{AllocError, Allocator, Global};
 use std::fs::{self, DirEntry};
 use std::io;
-use std::rt::{Alloc, Files};
+use std::rt::Files;
 
 /// A spill file in a folder of the machine. It is there from its first `keep` on, until its room takes it back, and is
 /// open only within a call. A spill file that was never kept is empty.
