@@ -33,7 +33,7 @@ int open(const char *p, int flags, ...) {
   va_end(rest);
   // The program opens this one to take the number of a standard stream. A build does without it.
   int is_counted = strcmp(p, "/dev/null") != 0;
-  return is_counted && fails("open", EACCES) ? -1 : syscall(SYS_open, p, flags, mode);
+  return is_counted && fails("open", EMFILE) ? -1 : syscall(SYS_open, p, flags, mode);
 }
 __attribute__((destructor)) static void tell(void) {
   char line[32];
