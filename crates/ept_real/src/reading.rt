@@ -2,25 +2,7 @@ ghost use Rattle.std.specs.Prelude.{◌≡◌, ◌<◌, ◌≤◌, IfSome, IfOk,
 ghost use Rattle.std.specs.Io.KnownBytes.{Consumes, IsAtEnd};
 
 use std::alloc::Global;
-use std::fs;
-use std::io::{self, ErrorKind, Read};
-use std::rt::Files;
-
-/// The whole of a regular file. What is no regular file is refused as an error of this kind.
-pub(crate) fn read_regular(
-    files: &impl Files,
-    alloc: Global,
-    path: &str,
-    otherwise: ErrorKind,
-) -> io::Result<Vec<u8>> {
-    // It is looked at before it is opened: the opening of a pipe waits for a writer, and a device may have no end.
-    let seen = files.metadata(path)?;
-    if !seen.is_file() {
-        return Err(io::Error::from(otherwise));
-    }
-    let mut file = fs::open(files, path)?;
-    read_all(alloc, &mut file, seen.len())
-}
+use std::io::{self, Read};
 
 /// All the bytes of a reader. If it has at most `size` bytes, and gives them at once, two reads are enough: one for the
 /// bytes and one for their end.

@@ -2,7 +2,7 @@ ghost use Rattle.std.specs.Prelude.{◌≡◌, IfOk, OnOk, option_map};
 ghost use Rattle.ept_base.specs.Files.{SameBut, Puts, Removes, Tells, StepsBy};
 
 use crate::path_disk::PathDisk;
-use crate::reading::read_regular;
+use crate::reading::read_all;
 use ept_base::{Failed, GetError};
 use std::alloc::Global;
 use std::fs::{self, OpenFile, OpenOptions};
@@ -25,9 +25,11 @@ impl<'a, R: Files> RealDisk<'a, R> {
     }
 }
 
-/// Reads the whole of a file. A folder, a pipe and a device can't be read.
+/// Reads the whole of a file. Its length is asked for first, so that its bytes come in one piece.
 pub(crate) fn read_file(files: &impl Files, alloc: Global, path: &str) -> io::Result<Vec<u8>> {
-    read_regular(files, alloc, path, ErrorKind::InvalidInput)
+    let mut file = fs::open(files, path)?;
+    let length = file.metadata()?.len();
+    read_all(alloc, &mut file, length)
 }
 
 /// Writes the whole of a file, and makes the folders that its path needs.

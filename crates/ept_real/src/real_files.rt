@@ -3,10 +3,11 @@ ghost use Rattle.ept_base.specs.Causes.{HasCauseOf};
 ghost use Rattle.ept_base.specs.Files.{Tells};
 
 use crate::path_files::PathFiles;
-use crate::reading::read_regular;
+use crate::reading::read_all;
 use ept_base::GetError;
 use std::alloc::Global;
-use std::io::ErrorKind;
+use std::fs;
+use std::io::{self, ErrorKind};
 use std::rt::Files;
 
 /// The regular files of the machine that the program runs on. Links are followed.
@@ -30,6 +31,17 @@ impl<'a, R: Files> RealFiles<'a, R> {
     }
 }
 
+/// The whole of a regular file. What is no regular file is not found.
+fn read_regular(files: &impl Files, alloc: Global, path: &str) -> io::Result<Vec<u8>> {
+    // It is looked at before it is opened: the opening of a pipe waits for a writer.
+    let seen = files.metadata(path)?;
+    if !seen.is_file() {
+        return Err(io::Error::from(ErrorKind::NotFound));
+    }
+    let mut file = fs::open(files, path)?;
+    read_all(alloc, &mut file, seen.len())
+}
+
 impl<'a, R: Files> PathFiles for RealFiles<'a, R> {
     ghost use Rattle.ept_real.specs.Counts.{files_faults};
     ghost use Rattle.ept_real.specs.ReadOnly.{machine_files};
@@ -46,8 +58,7 @@ impl<'a, R: Files> PathFiles for RealFiles<'a, R> {
         // Only the count is kept.
         ensures kept { self.new ≡ record self.old { faults = files_faults self.new } }
     {
-        // What is no regular file is not found.
-        match read_regular(self.machine, alloc, path, ErrorKind::NotFound) {
+        match read_regular(self.machine, alloc, path) {
             Ok(bytes) => Ok(Some(bytes)),
             Err(error) => match error.kind() {
                 ErrorKind::NotFound => Ok(None),
