@@ -54,7 +54,7 @@ none-stay rules points key none =
 
 -- ---- the lines of a checkpoint
 
--- the node that a line tells of
+-- the node that a line describes
 line-tile : (layout : Layout) (files : Files) (tiles : List Tile) (lines : List NodeLine) (line : NodeLine) → AllZip (IsSavedAs layout files) tiles lines → IsMember line lines → (t : Tile) × IsMember t tiles × IsSavedAs layout files t line
 line-tile layout files [] [] line all m = absurd m
 line-tile layout files [] (l ∷ lines) line all m = absurd all
@@ -65,7 +65,7 @@ line-tile layout files (t ∷ tiles) (l ∷ lines) line all (inr m) =
     let more = line-tile layout files tiles lines line all.1 m in (more.0, inr more.1, more.2)
 
 module _ (rules : Rules) (layout : Layout) (files : Files) (first : List Point) (lines : List NodeLine) (saved : AllZip (IsSavedAs layout files) (sampled rules first) lines) where
-  -- the line of a key tells of the points that stay there, and names their tile
+  -- the line of a key has the number of the points that stay there, and names their tile
   line-at : (key : VoxelKey) (line : NodeLine) → line_of_key lines key ≡ Some line → (line.count ≡ length (sampling rules first key)) × HasTileUnder layout (tile_of_line line) (sampling rules first key) files
   line-at key line found =
       let stands = found_stands (λ (l : NodeLine). same_key l.key key) lines line found in
@@ -74,7 +74,7 @@ module _ (rules : Rules) (layout : Layout) (files : Files) (first : List Point) 
       member-sampled rules first node.0 node.1 ∙ ap (λ (k : VoxelKey). sampling rules first k) (sym node.2.key ∙ line-key lines key line found) in
       (node.2.count ∙ ap (λ (w : List Point). length w) points, subst (λ (w : List Point). HasTileUnder layout (tile_of_line line) w files) points node.2.has_tile)
 
-  -- where it tells of so many points, so many stay
+  -- if it has a number of points, that number stays
   told-count : (key : VoxelKey) (mask count : ℕ) (found : Option NodeLine) → line_of_key lines key ≡ found → IsSomeAnd found (λ line. (line.mask ≡ mask) × (line.count ≡ count)) → length (sampling rules first key) ≡ count
   told-count key mask count None is told = absurd told
   told-count key mask count (Some line) is told = sym (line-at key line is).0 ∙ told.1
@@ -98,7 +98,7 @@ module _ (grow : SameOnesStay) (rules : Rules) (first points : List Point) (once
   abbrev current : Current
   current = Some (letter, c)
 
-  -- at each key within a still one as many points stay as before
+  -- at each key within a still one the number of points that stay is that of before
   as-many : (top : VoxelKey) → IsStill current nodes top → StayAsMany rules first points top
   as-many top still key within =
       elim (either (is_node rules points key)) [

@@ -1,4 +1,4 @@
-//! A disk that tells which files were flushed, with a clock and a standard error that the tests set and see.
+//! A disk that records which files were flushed, with a clock and a standard error that the tests set and see.
 
 use std::alloc::{AllocError, Allocator, Global};
 use std::cell::{Cell, RefCell};
@@ -9,16 +9,19 @@ use std::rt::Files;
 use std::sync::Arc;
 use std::time::{Clock, Duration};
 
-/// What was flushed of a disk, and what was said; how many flushes there are to one that fails, where it is
-/// not 0; whether nothing can be said; whether each path is that of the file `one`; the time in milliseconds, and by
-/// how much it goes on whenever it is asked for.
+/// What a disk has recorded, and what a test sets of it.
 #[derive(Drop)]
 pub(crate) struct Seen {
+    // What was flushed, and what was said.
     flushed: RefCell<String>,
     said: RefCell<String>,
+    // How many flushes there are up to the one that fails, or 0 if none does.
     pub(crate) to_fault: Cell<u32>,
+    // Whether nothing can be said.
     pub(crate) is_mute: Cell<bool>,
+    // Whether each path is that of the file `one`.
     pub(crate) is_one: Cell<bool>,
+    // The time in milliseconds, and by how much it increases whenever it is asked for.
     pub(crate) now: Cell<u64>,
     pub(crate) step: Cell<u64>,
 }
@@ -80,7 +83,7 @@ fn ends_in(said: &str, line: &str) -> bool {
     }
 }
 
-// Writes this behind a text.
+// Writes this after a text.
 fn append<D: Display>(text: &RefCell<String>, value: &D) -> io::Result<()> {
     let Ok(mut text) = text.try_borrow_mut() else {
         return Err(io::Error::from(ErrorKind::ResourceBusy));

@@ -36,7 +36,7 @@ pub(crate) fn gives<S: Source>(source: &mut S, bytes: &[u8], into: &mut [u8]) ->
     false
 }
 
-// How many bytes one read gives, and which of these are left. None where it fails or gives others.
+// How many bytes one read gives, and which of these are left. `None` if it fails or gives others.
 fn read_one<'a, S: Source>(
     source: &mut S,
     rest: &'a [u8],

@@ -41,8 +41,8 @@ fn a_store_reads_as_it_was_written(rt: HostRuntime) -> Result<(), Fail> {
     Ok(())
 }
 
-// A store in which `a` was put and made stable, and then `a` and `c` were put and `b` removed, of which
-// calls the fuse passes so many.
+// A store in which `a` was put and flushed. Then `a` and `c` were put and `b` was removed. The fuse passes this number
+// of those calls.
 fn burnt(alloc: Global, passes: u64) -> Result<MemStore, Fail> {
     let files = named(alloc, &[("a", b"one"), ("b", b"two")])?;
     let mut stable = MemStore::new(alloc, files, Vec::new(alloc));
@@ -99,7 +99,7 @@ fn a_fuse_passes_so_many_calls(rt: HostRuntime) -> Result<(), Fail> {
     Ok(())
 }
 
-// The first call fails whatever the fuse passes, and those behind it from the fuse on.
+// The first call fails whatever the fuse passes, and those after it from the fuse on.
 fn expect_passes(rt: &impl Abort, alloc: Global, passes: u64) -> Result<(), Fail> {
     let mut into = Vec::new(alloc);
     let fails = vec![in alloc; 0]?;

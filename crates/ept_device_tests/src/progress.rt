@@ -1,4 +1,4 @@
-//! What is told of a build, of a part, of a merge and of a check, and when.
+//! What is said of a build, of a part, of a merge and of a check, and when.
 
 use crate::disk::{Disk, Seen};
 use crate::folder::{enter, pattern};
@@ -25,7 +25,7 @@ fn files_of(
     SeenFiles::new(machine.alloc(), disk, "test", folder, run, telling)
 }
 
-// What is told of a file of each role when it is read, and then when it is put. The reading of the done gate begins
+// What is said of a file of each role when it is read, and then when it is put. The reading of the done gate begins
 // the second reading.
 const INPUT: [&str; 2] = [
     "test: reading 1, 0 MB; checkpoints 0; files put 0, flushed 0\n",
@@ -52,7 +52,7 @@ const OUTPUT: [&str; 2] = [
     "test: publishing, 0 MB; checkpoints 0; files put 1, flushed 0\n",
 ];
 
-// The folder of a build, a path, and what is told of its file.
+// The folder of a build, a path, and what is said of its file.
 static ROLES: [(&str, &str, [&str; 2]); 13] = [
     ("out", "survey.json", INPUT),
     ("out", "output/ept.json", INPUT),
@@ -69,7 +69,7 @@ static ROLES: [(&str, &str, [&str; 2]); 13] = [
     ("/a/out", "out/ept.json", INPUT),
 ];
 
-// Reads and puts the file of a path, and compares what is told of it.
+// Reads and puts the file of a path, and compares what is said of it.
 fn expect_role(
     rt: &impl Abort,
     machine: &HostRuntime,
@@ -108,7 +108,7 @@ fn each_file_has_its_role(rt: HostRuntime) -> Result<(), Fail> {
     Ok(())
 }
 
-// The files that a check reads first, and what is told of each where a line is due at once.
+// The files that a check reads first, and what is said of each if a line is due at once.
 static CHECKED: [(&str, &str); 3] = [
     (
         "out/ept-work/done-2",
@@ -145,7 +145,7 @@ enum Call<'a> {
     Sync,
 }
 
-// The calls of a build that goes on from a checkpoint, and the last line that each of them tells where a line is
+// The calls of a build that resumes from a checkpoint. With each of them comes the last line that it writes if a line is
 // due at once.
 static CALLS: [(Call<'static>, &str); 16] = [
     (
@@ -205,7 +205,7 @@ static CALLS: [(Call<'static>, &str); 16] = [
     (Call::Sync, ""),
 ];
 
-// The calls of a part, which reads its input twice, and the last line that each of them tells.
+// The calls of a part, which reads its input twice, and the last line that each of them writes.
 static PART_CALLS: [(Call<'static>, &str); 9] = [
     (
         Call::Read("survey.json"),
@@ -279,7 +279,7 @@ static MERGE_CALLS: [(Call<'static>, &str); 12] = [
     ),
 ];
 
-// Makes a call; whether it is answered.
+// Makes a call; whether it succeeds.
 fn is_made<H: Shelf, T: Store>(
     shelf: &mut H,
     store: &mut T,
@@ -337,7 +337,7 @@ const TILES: [&str; 2] = [
     "out/ept-work/part-07/0-0-0-0.bin",
 ];
 
-// Makes the calls of a run, and compares what each tells last; nothing where nothing is told.
+// Makes the calls of a run, and compares what each says last. Nothing is compared if nothing is said.
 fn expect_calls<R: Files>(
     rt: &impl Abort,
     seen: &Seen,
@@ -376,8 +376,8 @@ fn expect_run(
     Ok(())
 }
 
-// The calls are answered, and told where lines are to be; nothing is told where nothing can be said, and where nothing
-// is to be.
+// The calls succeed, and lines are written where they are due. Nothing is written if nothing can be said, or no line
+// is due.
 #[test]
 fn a_build_tells_how_far_it_is(rt: HostRuntime) -> Result<(), Fail> {
     for (telling, is_mute) in [
@@ -407,8 +407,8 @@ fn a_merge_tells_how_far_it_is(rt: HostRuntime) -> Result<(), Fail> {
     Ok(())
 }
 
-// Compares what is said of a build, which reads a million bytes of an input at each of these milliseconds from its
-// start, and then ends.
+// Compares what is said of a build. It reads a million bytes of an input at each of these milliseconds from its start,
+// and then ends.
 fn expect_told(
     rt: &impl Abort,
     machine: &HostRuntime,
@@ -449,7 +449,7 @@ fn write_line(files: &SeenFiles<Disk>, out: Pieces) -> Result<(), Fail> {
     Ok(())
 }
 
-// What stands on a terminal, where each line is written over the one before.
+// What a terminal shows, where each line is written over the one before.
 const OVER: [&str; 6] = [
     "test: reading 1, 2 MB; checkpoints 0; files put 0, flushed 0",
     "test: reading 1, 4 MB; checkpoints 0; files put 0, flushed 0",

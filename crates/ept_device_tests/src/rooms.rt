@@ -8,7 +8,7 @@ use std::process::Abort;
 use std::rt::Files;
 use std::test::Fail;
 
-// The length that a file answers for a buffer of four bytes, and the buffer.
+// The length that a file reports for a buffer of four bytes, and the buffer.
 fn loaded<R: Files>(file: &mut RealSpill<'_, R>) -> (Result<usize, Failed>, [u8; 4]) {
     let mut into = [9; 4];
     (file.load(&mut into), into)

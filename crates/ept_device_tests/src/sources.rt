@@ -9,8 +9,8 @@ use std::process::Abort;
 use std::rt::Files;
 use std::test::Fail;
 
-// A source at its start gives these bytes by reads into this buffer, is at its end then, and is rewound; and it
-// fills the buffer `front`.
+// A source at its start gives these bytes by reads into this buffer. It is at its end then, and is rewound. It also fills
+// the buffer `front`.
 fn expect_all<R: Files>(
     rt: &impl Abort,
     source: &mut RealSource<'_, R>,
@@ -76,7 +76,7 @@ fn expect_unread<S: Source>(rt: &impl Abort, source: &mut S, into: &mut [u8; 4])
     assert!(rt; *into == *b"one\x09");
 }
 
-// A file that is opened, then absent, then a folder.
+// A file that is opened, then missing, then a folder.
 #[test]
 fn what_can_not_be_read_is_a_fault(rt: HostRuntime) -> Result<(), Fail> {
     enter(&rt, "faults")?;

@@ -16,21 +16,21 @@ use std::test::Fail;
 enum Step {
     // The file of this name gets these bytes.
     Put(&'static str, &'static [u8]),
-    // The file of this name has these bytes, or is absent.
+    // The file of this name has these bytes, or is missing.
     Get(&'static str, Option<&'static [u8]>),
-    // The file of this name is removed, or is absent.
+    // The file of this name is removed, or is missing.
     Remove(&'static str),
     // The name can be neither put, got nor removed.
     Fail(&'static str),
-    // All is flushed; on a disk that tells it, these files and folders.
+    // All is flushed; of a disk that records it, these files and folders.
     Sync(&'static str),
     // Nothing can be flushed.
     FailSync,
-    // So many faults and gets there were.
+    // The numbers of faults and of gets that there were.
     Count(u64, u64),
 }
 
-// Makes the calls; what is flushed is told by what is seen of the disk.
+// Makes the calls. What is flushed is what the disk has recorded.
 fn take<R: Files>(
     rt: &impl Abort,
     seen: &Seen,
@@ -82,7 +82,7 @@ fn expect_failures<R: Files>(
     assert!(rt; store.remove(name) == Err(PutError::Failed));
 }
 
-// Makes the calls of a store in this folder of the machine itself, which tells no flush.
+// Makes the calls of a store in this folder of the machine itself, which records no flush.
 fn take_here(
     rt: &impl Abort,
     machine: &HostRuntime,
@@ -97,8 +97,8 @@ fn take_here(
     Ok(())
 }
 
-// Makes the calls of a store in this folder of a disk that tells its flushes, of which that of this number fails,
-// where it is not 0; then compares what was flushed since the last sync.
+// Makes the calls of a store in this folder of a disk that records its flushes. The flush of this number fails, if it is
+// not 0. Then it compares what was flushed since the last sync.
 fn take_on_disk(
     rt: &impl Abort,
     machine: &HostRuntime,

@@ -59,8 +59,8 @@ impl Write for Unable {
     }
 }
 
-// A stream whose bytes come three at a time, and after them their end or, of one that breaks, an error. It
-// takes as many bytes at a time as its writer.
+// A stream whose bytes come three at a time, and after them their end or, of one that breaks, an error. It takes the
+// same number of bytes at a time as its writer.
 #[derive(Drop)]
 struct Peer<'a> {
     comes: &'a [u8],

@@ -19,7 +19,7 @@ fn kept(store: &mut SureStore, name: &str, bytes: &[u8]) -> Result<(), PutError>
     put_kept(store, name, bytes)
 }
 
-// The front of a path, read twice.
+// The start of a path, read twice.
 fn front<H: Shelf>(shelf: &mut H, path: &str, into: &mut [u8]) -> Result<usize, GetError>
 where
     H::Source: Send,

@@ -14,8 +14,8 @@ use std::sync::atomic::Ordering::SeqCst;
 use std::thread::{self, Threads};
 use std::time::{Duration, Instant};
 
-/// The most connections that are served at once. The others wait to be accepted. Each may have a file open beside its
-/// socket, so a limit of 1,024 descriptors, which is usual, has room for all of them.
+/// The most connections that are served at once. The others wait to be accepted. Each may have a socket and a file open,
+/// so a limit of 1,024 descriptors, which is usual, has room for all of them.
 const MOST: u32 = 500;
 
 /// The most bytes that are read after the last response.

@@ -5,7 +5,7 @@ ghost use Rattle.std.specs.Prelude.{◌≤◌, length};
 /// The most bytes of a target that a line has.
 const MOST: usize = 256;
 
-/// The length of the head that these bytes begin with: up to the first CR LF CR LF, or all of them if they have none.
+/// The length of the head that these bytes begin with, up to the first CR LF CR LF. Without one it is all of them.
 pub(crate) fn end_of_head(bytes: &[u8]) -> usize
     ensures { result ≤ length bytes.now }
 {

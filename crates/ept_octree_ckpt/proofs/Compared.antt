@@ -48,13 +48,13 @@ line-told None key mask points line is same_mask same_count = absurd (none-some 
 line-told (Some (letter, c)) key mask points line is same_mask same_count =
     subst (λ (o : Option NodeLine). IsSomeAnd o (λ l. (l.mask ≡ mask) × (l.count ≡ length points))) (sym is) (same_mask, same_count)
 
--- no node is told of where there is no line
+-- no node is counted if there is no line
 pub none-told : (current : Current) (key : VoxelKey) (mask : ℕ) (points : List Point) → current_line current key ≡ None → ¬ IsTold current key mask points
 none-told current key mask points none told =
     let at = found-line current key (λ c line. (line.mask ≡ mask) × (line.count ≡ length points)) told in
     none-some at.1 (sym none ∙ at.2)
 
--- and none where the line tells otherwise
+-- and none if the line differs
 pub other-told : (current : Current) (key : VoxelKey) (mask : ℕ) (points : List Point) (line : NodeLine) → current_line current key ≡ Some line → (line.mask ≢ mask) ⊎ (line.count ≢ length points) → ¬ IsTold current key mask points
 other-told current key mask points line is differs told =
     let at = found-line current key (λ c l. (l.mask ≡ mask) × (l.count ≡ length points)) told in

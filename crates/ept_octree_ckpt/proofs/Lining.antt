@@ -1,4 +1,4 @@
--- The lines of the current checkpoint one after another, and entries that are put behind those before them.
+-- The lines of the current checkpoint one after another, and entries that are put after those before them.
 use Rattle.std.proofs.Common.{◌≡◌, ◌∙◌, inl, inr, ℕ, zero, suc, ◌<◌, ◌≤◌, List, [], ◌∷◌, ◌++◌, take, length, get_or, refl, sym, ap, subst, arith, Option, Some, None, Ordering}
 use Rattle.std.specs.Prelude.{IsSome}
 use Rattle.std.specs.List.{AllZip}
@@ -29,7 +29,7 @@ use Rattle.ept_octree_ckpt.specs.LinesLaws.{HaveKeys}
 use Rattle.ept_octree_ckpt.specs.Lines.{TellNodes}
 use Rattle.ept_octree_ckpt.proofs.Telling.{node-line}
 
--- ---- pairs, and files that are told
+-- ---- pairs, and files that are known
 
 pub zip-more : {A B : Type 0} (R : A → B → Type 0) (xs : List A) (ys : List B) (x : A) (y : B) → AllZip R xs ys → R x y → AllZip R (xs ++ x ∷ []) (ys ++ y ∷ [])
 zip-more R [] [] x y all r = (r, tt)
@@ -41,14 +41,14 @@ pub tells-both : (one other both : Files → Type 0) → ((all : Files) → one 
 tells-both one other both makes None a b = tt
 tells-both one other both makes (Some all) a b = makes all a b
 
--- what is told of the files as they are holds of them as they were, where they are the same
+-- what is known of the files as they are holds of them as they were, where they are the same
 pub tells-back : (was is : Files → Type 0) → ((old new : Files) → SameFiles old new → is new → was old) → (old new : Option Files) → StepsBy SameFiles old new → Tells is new → Tells was old
 tells-back was is back None None same told = tt
 tells-back was is back None (Some new) same told = absurd same
 tells-back was is back (Some old) None same told = absurd same
 tells-back was is back (Some old) (Some new) same told = back old new same told
 
--- ---- an entry behind all others
+-- ---- an entry after all others
 
 turned : (a b : VoxelKey) → key_cmp a b ≡ Less → key_cmp b a ≡ Greater
 turned a b is = key_cmp_total.antisymm b a ∙ ap ordering_reverse is
@@ -107,13 +107,13 @@ module _ (current : Current) (c : Checkpoint) (is_current : option_map (λ (at :
     next-tile files has =
         subst (λ (d : Checkpoint). HasTileUnder (layout_of d.version) (tile_of_line line) points files) at.2 (at-line current line.key at.0 line (λ d l. HasTileUnder (layout_of d.version) (tile_of_line l) points files) at.1 found_at has)
 
--- the entries before are those of lines in front, so the next one comes behind them
+-- the entries before are those of earlier lines, so the next one comes after them
 pub entries-low : (entries : List Branch) (lines : List NodeLine) (i : ℕ) (line : NodeLine) → DoAscend lines → i < length lines → get_or lines i line ≡ line → TellNodes entries (take i lines) → (e : Branch) → IsMember e entries → key_cmp e.0 line.key ≡ Less
 entries-low entries lines i line up inside is told e m =
     let l = node-line entries (take i lines) e told m in
     ap (λ (k : VoxelKey). key_cmp k line.key) (sym l.2.key) ∙ before-next lines i line l.0 up inside is l.1
 
--- where it is told of files, so is what follows
+-- if the files are known, so is what follows
 pub tells-more : (one other : Files → Type 0) → ((all : Files) → one all → other all) → (files : Option Files) → Tells one files → Tells other files
 tells-more one other makes None a = tt
 tells-more one other makes (Some all) a = makes all a
@@ -122,7 +122,7 @@ tells-more one other makes (Some all) a = makes all a
 pub have-keys : (c : Checkpoint) → HaveKeys c.nodes
 have-keys c = λ k line inside. (c.is_checkpoint.lines k line inside).is_key
 
--- nodes of which some first lines tell are fewer than all lines
+-- nodes that some first lines describe are fewer than all lines
 pub told-few : (nodes : List Branch) (lines : List NodeLine) (i : ℕ) → i < length lines → TellNodes nodes (take i lines) → length nodes < length lines
 told-few [] (l ∷ ls) zero inside told = omega arith
 told-few (b ∷ bs) (l ∷ ls) zero inside told = absurd told

@@ -70,15 +70,15 @@ some-lines (l ∷ ls) octree = omega arith
 abbrev pub alone : Rules → List Branch
 alone rules = (let b : Branch = (root, empty_node root rules) in b) ∷ []
 
--- The nodes of these lines were added to the octree of no points, in which the root stands from the beginning; where spill
--- files tell, the files that the lines name are their tiles.
+-- The nodes of these lines were added to the octree of no points, which has its root from the beginning. If spill files
+-- are known, the files that the lines name are their tiles.
 pub record AreLoaded (telling : Type 0) (layout : Layout) (rules : Rules) (lines : List NodeLine) (nodes : List Branch) (files : Option Files) : Type 0 where
   pub loaded : List Branch
   pub told : TellNodes loaded lines
   pub tiles : telling → Tells (λ all. NameTiles layout all loaded lines) files
   pub there : (nodes ≡ loaded) ⊎ ((loaded ≡ []) × (nodes ≡ alone rules))
 
--- before the first line the root is in memory, and behind each there is room for one node more
+-- before the first line the root is in memory, and after each there is room for one node more
 abbrev pub HasPlace : {F : Type 0} → ℕ → Octree F → Type 0
 HasPlace i tree = ((i ≡ 0) × (0 < residents_of tree)) ⊎ ((0 < i) × (residents_of tree < cache_of tree))
 
@@ -90,13 +90,13 @@ pub loaded-none : (telling : Type 0) (layout : Layout) (rules : Rules) (nodes : 
 loaded-none telling layout rules nodes files is =
     record { loaded = []; told = tt; tiles = λ tell. none_named layout files; there = inr (refl, is) }
 
--- where no node is told of there is no line
+-- if no node is described there is no line
 first_taken : (lines : List NodeLine) (i : ℕ) → i < length lines → TellNodes [] (take i lines) → i ≡ 0
 first_taken lines zero inside told = refl
 first_taken [] (suc i) inside told = absurd (omega (arith, inside))
 first_taken (l ∷ ls) (suc i) inside told = absurd told
 
--- nodes of which some first lines tell are as many
+-- nodes that some first lines describe are equal in number to these
 told_count : (nodes : List Branch) (lines : List NodeLine) (i : ℕ) → i < length lines → TellNodes nodes (take i lines) → length nodes ≡ i
 told_count [] lines zero inside told = refl
 told_count [] [] (suc i) inside told = absurd (omega (arith, inside))
@@ -109,7 +109,7 @@ none_or_some : (n : ℕ) → (n ≡ 0) ⊎ (0 < n)
 none_or_some zero = inl refl
 none_or_some (suc n) = inr (omega arith)
 
--- what lines tell of nodes they tell of nodes that are alike
+-- what lines say of nodes they say of nodes that are alike
 pub alike-told : (old new : List Branch) (lines : List NodeLine) → AreAlike old new → TellNodes old lines → TellNodes new lines
 alike-told [] [] lines alike told = told
 alike-told [] (c ∷ cs) lines alike told = absurd alike
@@ -194,7 +194,7 @@ module _ (telling : Type 0) (rules : Rules) (c : Checkpoint) (items : List NodeL
     | inr first ↦ absurd (full.0 (alone_first first.0))
   ]
 
-  -- it is one too many only where there are more lines than there may be nodes
+  -- it is one too many only if there are more lines than there may be nodes
   pub next-full : (most : ℕ) → (line.key ≢ root) × (most ≤ length nodes) → most < length c.nodes
   next-full most full = elim at.there [
     | inl all ↦
@@ -235,7 +235,7 @@ module _ (telling : Type 0) (rules : Rules) (c : Checkpoint) (items : List NodeL
       there = inl refl;
     }
 
--- the node of the points that were found is the one of which the line tells
+-- the node of the points that were found is the one that the line describes
 pub tells-filled : (rules its : Rules) (line : NodeLine) (points : List Point) → AreOfLine its line points → TellsNode (line.key, filled line.key rules line.mask points) line
 tells-filled rules its line points are = record { key = refl; mask = refl; count = sym are.counted }
 

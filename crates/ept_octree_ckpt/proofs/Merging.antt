@@ -1,4 +1,4 @@
--- Lines in key order: those of the nodes that were saved, and behind them those of the current checkpoint.
+-- Lines in key order: those of the nodes that were saved, and after them those of the current checkpoint.
 use Rattle.std.proofs.Common.{◌≡◌, ◌∙◌, Bool, true, false, cond, inl, inr, List, [], ◌∷◌, refl, sym, ap, subst, Option, Some, None, Ordering}
 use Rattle.std.specs.Prelude.{◌||◌, filter}
 use Rattle.std.specs.List.{cons_option}
@@ -46,7 +46,7 @@ not_among key keys low =
     never less = let equal = key-self key in absurd (cc)
 
 module _ (key : VoxelKey) (keys : List VoxelKey) (low : (k : VoxelKey) → IsMember k keys → key_cmp key k ≡ Less) (l : NodeLine) (lines : List NodeLine) (behind_l : AreBehind l.key lines) (more : lines_among (key ∷ keys) lines ≡ cons_option (line_of_key lines key) (lines_among keys lines)) where
-  -- of the lines behind one that stands at the key or behind it none has the key
+  -- of the lines after one whose key is this key or after it none has the key
   none_more : AreBehind key lines → lines_among (key ∷ keys) lines ≡ lines_among keys lines
   none_more behind = more ∙ ap (λ (o : Option NodeLine). cons_option o (lines_among keys lines)) (none_found key lines behind)
 
@@ -79,7 +79,7 @@ module _ (key : VoxelKey) (keys : List VoxelKey) (low : (k : VoxelKey) → IsMem
       ∙ (ap (λ (b : Bool). cond b (l ∷ lines_among (key ∷ keys) lines) (lines_among (key ∷ keys) lines)) is
       ∙ (more ∙ sym (found false other ∙ ap (λ (w : List NodeLine). cons_option (line_of_key lines key) w) (others false is))))
 
--- the lines of a key and of those behind it: first that of the key, if there is one
+-- the lines of a key and of those after it: first that of the key, if there is one
 pub next-lines : (key : VoxelKey) (keys : List VoxelKey) (lines : List NodeLine) → DoAscend lines → ((k : VoxelKey) → IsMember k keys → key_cmp key k ≡ Less) → lines_among (key ∷ keys) lines ≡ cons_option (line_of_key lines key) (lines_among keys lines)
 next-lines key keys [] up low = refl
 next-lines key keys (l ∷ lines) up low =

@@ -42,7 +42,7 @@ module _ {D : Type 0} (files : D → Option Files) (may_leave : D → Files → 
       Moves files may_leave moment image_since SameFiles old new
       ⊎ (¬ HasNode current key mask points all × Moves files may_leave moment image_since (SameBut (work_tile_name (free_letter current key) key)) old new)
 
-  -- the same of a node that is told in other words
+  -- the same of a node that is described in other words
   pub puts-again : (old new : D) (all : Files) (current now : Current) (key other : VoxelKey) (mask bits : ℕ) (points shown : List Point) → current ≡ now → key ≡ other → mask ≡ bits → points ≡ shown → PutsNode old new all current key mask points → PutsNode old new all now other bits shown
   puts-again old new all current now key other mask bits points shown a b c d puts =
       subst (λ (w : List Point). PutsNode old new all now other bits w) d

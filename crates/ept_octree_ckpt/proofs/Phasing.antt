@@ -1,4 +1,4 @@
--- An octree becomes the next checkpoint: why that is one, and how the files go on.
+-- An octree becomes the next checkpoint: why that is one, and how the files change.
 use Rattle.std.proofs.Common.{◌≡◌, ◌∙◌, inl, inr, ⊎_elim, ℕ, zero, suc, ◌+◌, ◌<◌, ◌≤◌, ◌^◌, List, [], ◌∷◌, map, length, get_or, refl, sym, ap, subst, arith, Option, Some, None}
 use Rattle.std.specs.Prelude.{All, false}
 use Rattle.ept_base.specs.Files.{Files, Tells}
@@ -58,7 +58,7 @@ length-told [] (l ∷ ls) told = absurd told
 length-told (b ∷ bs) [] told = absurd told
 length-told (b ∷ bs) (l ∷ ls) told = let more = length-told bs ls told.1 in omega (arith, more)
 
--- the lines tell of nodes that are no deeper than may be
+-- the lines describe nodes that are no deeper than may be
 are_lines : (kept : Kept) (nodes : List Branch) (lines : List NodeLine) → TellNodes nodes lines → AreKnown nodes → AreNodes (rules_of kept) nodes → All (IsNode (deepest kept.bounds kept.s kept.max_depth)) lines
 are_lines kept nodes lines told known own = All-members (IsNode (deepest kept.bounds kept.s kept.max_depth)) lines (λ l m.
     let b = line-node nodes lines l told m in
@@ -111,7 +111,7 @@ module _ (by_facts : CheckpointByFacts) (view : View) (kept : Kept) (counts : Li
       let same : next ≡ the-next = by_facts next the-next are in
       (same, subst (IsNext view kept counts inserted nodes) (sym same) is-the-next)
 
--- ---- the files go on
+-- ---- how the files change
 
 pub named_tiles : (start now : Files) (nodes : List Branch) (lines : List NodeLine) → ((l : NodeLine) → IsMember l lines → now (tile_of_line l) ≡ start (tile_of_line l)) → NameTiles New start nodes lines → NameTiles New now nodes lines
 named_tiles start now [] [] same names = tt
@@ -171,7 +171,7 @@ tree-valid law view rules kept counts inserted nodes given further few told know
     next-valid view.current kept counts inserted nodes view.lines given further few told known (subst (λ (r : Rules). AreNodes r nodes) is own)
     (subst (λ (n : ℕ). AreNodesOf n view.lines) holds (law nodes view.lines told whole))
 
--- what a store stands for is the current checkpoint of what it tells
+-- what a store represents is the current checkpoint of what it reads
 pub stands-current : (view : View) (files : Option Files) (may_leave : Files → Type 0) (all : Files) → StandsFor view files may_leave → files ≡ Some all → HasCurrent view.current all
 stands-current view files may_leave all stands told =
     subst (HasCurrent view.current) (some-same stands.all all (sym stands.told ∙ told)) stands.has_current

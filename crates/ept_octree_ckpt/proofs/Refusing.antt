@@ -74,7 +74,7 @@ module _ {T : Type 0} (result : Result T SaveError) (e : SaveError) (was : resul
   pub none-damaged : (key : VoxelKey) → IfErr result IsStores → e ≡ TileDamaged key → ⊥
   none-damaged key stores is = not-stores e key (its_kind IsStores stores) is
 
-  -- the refusal is one of those that are told
+  -- the refusal is one of those that are reported
   pub load-fault : (at : VoxelKey) → IfErr result (λ f. (f ≡ TileDamaged at) ⊎ IsStores f) → IsLoadFault (Save e)
   load-fault at only = elim (its_kind (λ f. (f ≡ TileDamaged at) ⊎ IsStores f) only) [
     | inl here ↦ inr (inr (inr (inr (at, ap (λ (f : SaveError). Save f) here))))
@@ -89,7 +89,7 @@ save-fault result e was at only = elim (its_kind result e was (λ f. (f ≡ Tile
   | inr stores ↦ inr stores
 ]
 
--- ---- refusals that are handed on
+-- ---- refusals that are passed on
 
 -- that of a call on checkpoints
 module _ {T U : Type 0} (inner : Result T SaveError) (outer : Result U PhaseError) (e : SaveError) (was : inner ≡ Err e) (is : outer ≡ Err (Save e)) where
@@ -125,7 +125,7 @@ module _ {T U : Type 0} (inner : Result T PhaseError) (outer : Result U PhaseErr
       same : (◌≡◌ {A = Result U PhaseError} (Err e) (Err f)) → e ≡ f
       same both = cc
 
--- a refusal of devices is one of those that are told
+-- a refusal of devices is one of those that are reported
 pub devices-fault : {U : Type 0} (r : Result U PhaseError) → IfErr r IsDevices → IfErr r IsSaveFault
 devices-fault (Ok u) devices = tt
 devices-fault (Err e) devices = inr devices

@@ -1,4 +1,4 @@
--- Points are the same exactly where each of their fields is.
+-- Points are the same if and only if each of their fields is.
 use Rattle.std.proofs.Common.{◌≡◌, Bool, true, false, eqb, int_eq, refl, subst, Decides}
 use Rattle.std.specs.Prelude.{◌&&◌}
 use Rattle.std.specs.Cmp.Lexicographic.{pointwise}

@@ -1,4 +1,4 @@
--- Nodes and their tiles: those of a sampling where the lines that tell of them are.
+-- Nodes and their tiles: those of a sampling if the lines that describe them are.
 use Rattle.std.proofs.Common.{◌≡◌, ◌∙◌, ℕ, ◌<◌, ◌==◌, List, [], ◌∷◌, map, refl, sym, ap, subst}
 use Rattle.std.specs.List.{AllZip}
 use Rattle.std.specs.Int.{bit_at}

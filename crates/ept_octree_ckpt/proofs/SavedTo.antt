@@ -76,7 +76,7 @@ pub lines-ascend : (current : Current) → DoAscend (lines_of current)
 lines-ascend None = tt
 lines-ascend (Some (letter, c)) = do-ascend c.nodes c.is_checkpoint.nodes_are.octree.ascend
 
--- of the line of which a fact is told, it is so
+-- of the line of which a fact is stated, it is so
 some_line : (c : Checkpoint) (found : Option NodeLine) (fact : Checkpoint → NodeLine → Type 0) → IsSomeAnd found (fact c) → (line : NodeLine) × (found ≡ Some line) × fact c line
 some_line c None fact is = absurd is
 some_line c (Some line) fact is = (line, refl, is)
@@ -150,7 +150,7 @@ saved-tile (Err e) old new key mask points letter before after line puts = tt
 
 -- ---- the line of a node
 
--- A line tells of the node: it stays, or is new. Where tiles are told of, the one that it names is there.
+-- A line describes the node: it stays, or is new. If tiles are known, the one that it names is there.
 pub record HasItsLine (telling : Type 0) (now new : View) (b : Branch) (files : Option Files) : Type 0 where
   pub line : NodeLine
   pub tells : TellsNode b line
@@ -166,7 +166,7 @@ line-saved telling now new b points files saves many points_are = record {
   has_tile = λ tell. subst (λ (w : List Point). Tells (λ (all : Files). all (tile_of_line saves.line) ≡ Some (tile w)) files) (points_are tell) saves.has_tile;
 }
 
--- that of a node of which the current checkpoint tells
+-- that of a node that the current checkpoint describes
 pub line-stays : (telling : Type 0) (current : Current) (now : View) (b : Branch) (files : Option Files) → now.current ≡ current → ¬ IsOfLayout Old current → IsTold current b.0 b.1.mask b.1.points → (telling → Tells (HasTile current b.0 b.1.points) files) → HasItsLine telling now now b files
 line-stays telling current now b files same newest told has =
     let at = found-line current b.0 (λ c line. (line.mask ≡ b.1.mask) × (line.count ≡ length b.1.points)) told in
@@ -181,8 +181,8 @@ line-stays telling current now b files same newest told has =
 
 -- ---- the nodes, one after another
 
--- of the nodes that are done the lines are there, where spill files tell with their tiles; of the rest the current checkpoint's
--- lines stand
+-- The lines of the nodes that are done are there, with their tiles if spill files are known. For the rest the current
+-- checkpoint's lines stand.
 pub record IsSavedTo (telling : Type 0) (start now : View) (done rest : List Branch) (files : Option Files) : Type 0 where
   pub lines : List NodeLine
   pub view_is : now ≡ record start { lines = lines ++ lines_among (keys_in rest) (lines_of start.current) }
@@ -209,7 +209,7 @@ saved-none telling start nodes files fresh each = record {
     view : start ≡ record start { lines = lines_among (keys_in nodes) (lines_of start.current) }
     view = let same : start.lines ≡ lines_among (keys_in nodes) (lines_of start.current) = fresh ∙ sym among in λ i. record start { lines = same i }
 
--- nothing but the lines changed
+-- only the lines changed
 pub lines-only : (start now : View) (lines : List NodeLine) → now ≡ record start { lines = lines } → now ≡ record start { lines = now.lines }
 lines-only start now lines is = is ∙ ap (λ (w : List NodeLine). record start { lines = w }) (sym (ap (λ (v : View). v.lines) is))
 

@@ -1,4 +1,4 @@
--- Nodes that are as the current checkpoint tells of them, and sets of the keys that are not still.
+-- Nodes that are as the current checkpoint describes them, and sets of the keys that are not still.
 use Rattle.std.proofs.Common.{◌≡◌, ◌≢◌, ◌∙◌, ◌⊎◌, inl, inr, ⊎_elim, ℕ, ◌+◌, ◌<◌, Bool, true, false, ◌||◌, List, [], ◌∷◌, take, length, get_or, nat_eq, refl, sym, subst, arith, Option, Some, None}
 use Rattle.std.specs.Prelude.{◌↔◌, IsTrue}
 use Rattle.std.proofs.lemmas.Bool.Decides.{nat_tests}
@@ -22,7 +22,7 @@ use Rattle.ept_octree_ckpt.proofs.Lining.{some-same}
 use Rattle.ept_octree_ckpt.proofs.SavedTo.{found-line, one_line}
 use Rattle.ept_octree_ckpt.proofs.OnlyChanged.{tile-kept}
 
--- ---- what the line of a key tells
+-- ---- what the line of a key states
 
 told_line : (current : Current) (key : VoxelKey) (mask : ℕ) (points : List Point) (line : NodeLine) → current_line current key ≡ Some line → IsTold current key mask points → (line.mask ≡ mask) × (line.count ≡ length points)
 told_line current key mask points line is told =
@@ -59,7 +59,7 @@ or-true true inside new is some = inl refl
 or-true false inside new is some = inr (sym is ∙ some)
 
 module _ (current : Current) (nodes : List Branch) (i : ℕ) (b : Branch) (inside : i < length nodes) (is : get_or nodes i b ≡ b) where
-  -- a key is still by one node more, where that is told of, or does not lie within it
+  -- a key is still by one node more, if that one is known, or does not lie within it
   pub still-more : (key : VoxelKey) → IsStill current (take i nodes) key → (is_within key b.0 ≡ true → IsTold current b.0 b.1.mask b.1.points) → IsStill current (take (i + 1) nodes) key
   still-more key still here =
       subst (λ (w : List Branch). IsStill current w key) (take-next nodes i b inside is) (λ node member. by_member node (IsMember-append node (take i nodes) (b ∷ []) member))

@@ -1,4 +1,4 @@
--- Lines and the nodes of which they tell: one is a whole octree where the other is.
+-- Lines and the nodes that they describe: one is a whole octree if the other is.
 use Rattle.std.proofs.Common.{◌≡◌, ◌∙◌, ◌⊎◌, ℕ, zero, suc, ◌<◌, ◌^◌, ◌==◌, Bool, true, false, inl, inr, List, [], ◌∷◌, map, refl, sym, ap, subst, arith, length, Some, None}
 use Rattle.std.specs.Prelude.{AllPairs}
 use Rattle.std.specs.Int.{bit_at}
@@ -184,7 +184,7 @@ module _ (nodes : List Branch) (lines : List NodeLine) (told : TellNodes nodes l
   line_at : (key : VoxelKey) → IsMember key ks → (l : NodeLine) × IsMember l lines × (l.key ≡ key)
   line_at key m = member-map (λ (l : NodeLine). l.key) key lines m
 
-  -- an octant that a line tells as open is open in its node
+  -- an octant that a line states as open is open in its node
   opens_at : (l : NodeLine) (o : ℕ) → IsMember l lines → o < 8 → opened l.mask o ≡ true → has_open (node_at now l.key) o ≡ true
   opens_at l o m low is =
       let b = line-node nodes lines l told m in

@@ -110,7 +110,7 @@ gate-undamaged current letter all old mid same told none =
     let at = stepped (SameBut (gate_name letter)) old mid all told same in
     (at.0, at.1, undamaged_where current all at.0 (λ line named. at.2 (tile_of_line line) (λ e. gate-tile letter line.letter line.key (sym e))) none)
 
--- ---- a tile that is told as damaged
+-- ---- a tile that is reported as damaged
 
 -- where the current checkpoint is kept, its tile stays damaged
 pub damaged-kept : (current : Current) (key : VoxelKey) (old new : Option Files) → StepsBy (Keeps current) old new → Tells (IsDamaged current key) old → Tells (IsDamaged current key) new

@@ -1,4 +1,4 @@
--- What the refusals of nodes are told as, and which refusals are those of devices.
+-- How the refusals of nodes are reported, and which refusals are those of devices.
 use Rattle.std.specs.Prelude.{⊤}
 use Rattle.ept_node.specs.declared.error.NodeError.{NodeError}
 use Rattle.ept_node.specs.declared.error.NodeError.TheVariants as node
@@ -12,7 +12,7 @@ of_node node.SpillFault = SpillFault
 of_node (node.SpillDamaged kept found at) = SpillDamaged kept found at
 of_node node.Memory = Save save.Memory
 
--- a refusal of the store itself or of a spill file, or for want of memory
+-- a refusal of the store itself or of a spill file, or that memory ran out
 abbrev pub IsDevices : PhaseError → Type 0
 IsDevices (Save e) = IsStores e
 IsDevices TooManyNodes = ⊥

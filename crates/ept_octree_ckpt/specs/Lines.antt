@@ -1,4 +1,4 @@
--- The nodes of an octree, and the lines of a checkpoint that tell of them.
+-- The nodes of an octree, and the lines of a checkpoint that describe them.
 use Rattle.std.specs.Prelude.{◌≡◌, List, length}
 use Rattle.std.specs.List.{AllZip}
 use Rattle.ept_base.specs.Files.{Files}
@@ -8,13 +8,13 @@ use Rattle.ept_save.specs.Current.{tile_of_line}
 use Rattle.ept_save.specs.Tiles.{HasTileUnder}
 use Rattle.ept_table.specs.Octree.{Branch}
 
--- a line tells of a node: its key, its open octants, and how many points it has
+-- a line describes a node: its key, its open octants, and how many points it has
 pub record TellsNode (b : Branch) (line : NodeLine) : Type 0 where
   pub key : line.key ≡ b.0
   pub mask : line.mask ≡ b.1.mask
   pub count : line.count ≡ length b.1.points
 
--- the lines tell of the nodes, one line of each
+-- the lines describe the nodes, one line for each
 abbrev pub TellNodes : List Branch → List NodeLine → Type 0
 TellNodes nodes lines = AllZip TellsNode nodes lines
 

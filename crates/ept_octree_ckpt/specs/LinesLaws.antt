@@ -1,4 +1,4 @@
--- What holds of the lines that tell of an octree's nodes. Each statement stands on the contract of a function of `laws`.
+-- What holds of the lines that describe an octree's nodes. Each statement follows from the contract of a function of `laws`.
 use Rattle.std.specs.Prelude.{List, length, map, All}
 use Rattle.ept_space.specs.VoxelKey.{IsKey}
 use Rattle.ept_ckpt.specs.declared.node_line.NodeLine.{NodeLine}
@@ -14,17 +14,17 @@ use Rattle.ept_octree_ckpt.specs.Saving.{HasEachNodeOf}
 abbrev pub HaveKeys : List NodeLine → Type 0
 HaveKeys lines = All (λ (line : NodeLine). IsKey line.key) lines
 
--- lines that tell of the nodes of a whole octree are those of a checkpoint of its points
+-- lines that describe the nodes of a whole octree are those of a checkpoint of its points
 abbrev pub WholeIsTold : Type 0
 WholeIsTold =
     (nodes : List Branch) (lines : List NodeLine) → TellNodes nodes lines → AreWhole (map entry_of nodes) → AreNodesOf (length (points_in nodes)) lines
 
--- and nodes of which a checkpoint's lines tell are a whole octree
+-- and nodes that a checkpoint's lines describe are a whole octree
 abbrev pub ToldIsWhole : Type 0
 ToldIsWhole =
     (nodes : List Branch) (lines : List NodeLine) → TellNodes nodes lines → HaveKeys lines → AreWholeOctree lines → AreWhole (map entry_of nodes)
 
--- of nodes of which the current checkpoint's lines tell, each is among those that keep them
+-- of nodes that the current checkpoint's lines describe, each is among those that keep them
 abbrev pub KeptIsEach : Type 0
 KeptIsEach =
     (current : Current) (old new : List Branch) → OfCurrent current (λ (c : Checkpoint). TellNodes old c.nodes) → KeepsNodes (map entry_of old) (map entry_of new) → HasEachNodeOf current new

@@ -21,7 +21,7 @@ OfCurrent (Some (letter, c)) fact = fact c
 abbrev pub AreIntact : Current → List NodeLine → Files → Type 0
 AreIntact current lines files = (line : NodeLine) → IsMember line lines → ¬ IsDamaged current line.key files
 
--- a line of the key is one of the first so many of the current checkpoint, whose nodes have slots
+-- a line of the key is one of this number of first lines of the current checkpoint, whose nodes have slots
 pub record HasSlot (current : Current) (slots : ℕ) (key : VoxelKey) : Type 0 where
   pub front : List NodeLine
   pub line : NodeLine

@@ -27,7 +27,7 @@ abbrev pub GoesFurther : Current → ℕ → ℕ → Type 0
 GoesFurther None inserted inputs = ⊤
 GoesFurther (Some (letter, c)) inserted inputs = c.inserted + length c.kept.inputs < inserted + inputs
 
--- the next checkpoint: what is given of the inputs, so many points inserted, lines that tell of these nodes, and the newest layout of tiles
+-- the next checkpoint: what is given of the inputs, the number of points inserted, lines that describe these nodes, and the newest layout of tiles
 pub record IsNext (view : View) (kept : Kept) (counts : List SourceCount) (inserted : ℕ) (nodes : List Branch) (next : Checkpoint) : Type 0 where
   pub generation : next.generation ≡ next_generation view.current
   pub kept_is : next.kept ≡ kept
@@ -36,7 +36,7 @@ pub record IsNext (view : View) (kept : Kept) (counts : List SourceCount) (inser
   pub told : TellNodes nodes next.nodes
   pub newest : layout_of next.version ≡ New
 
--- The new files have it as their current one. Where still nodes are the same in the old files, it names the nodes' tiles.
+-- The new files have it as their current one. If still nodes are the same in the old files, it names the nodes' tiles.
 pub record HasNext (view : View) (kept : Kept) (counts : List SourceCount) (inserted : ℕ) (nodes : List Branch) (old new : Files) : Type 0 where
   pub next : Checkpoint
   pub is_next : IsNext view kept counts inserted nodes next
@@ -48,7 +48,7 @@ pub record GoesOn (view : View) (kept : Kept) (counts : List SourceCount) (inser
   pub either : Keeps view.current old new ⊎ HasNext view kept counts inserted nodes old new
   pub apart : (name : List ℕ) → ¬ IsSavedName name → new name ≡ old name
 
--- the next checkpoint is noted as the current one, with its lines for the one behind it
+-- the next checkpoint is noted as the current one, with its lines for the one after it
 pub record IsSaved (old new : View) (kept : Kept) (counts : List SourceCount) (inserted : ℕ) (nodes : List Branch) : Type 0 where
   pub next : Checkpoint
   pub is_next : IsNext old kept counts inserted nodes next

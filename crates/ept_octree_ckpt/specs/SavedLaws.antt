@@ -1,4 +1,4 @@
--- What holds of nodes and of the lines that name their tiles. Each statement stands on the contract of a function of `laws`.
+-- What holds of nodes and of the lines that name their tiles. Each statement follows from the contract of a function of `laws`.
 use Rattle.std.specs.Prelude.{List}
 use Rattle.std.specs.List.{AllZip}
 use Rattle.ept_base.specs.Files.{Files}
@@ -13,12 +13,12 @@ use Rattle.ept_save.specs.Sound.{IsSavedAs}
 use Rattle.ept_table.specs.Octree.{Branch, AreSampled}
 use Rattle.ept_octree_ckpt.specs.Lines.{TellNodes, NameTiles}
 
--- nodes of which the lines of some points' sampling tell, with the tiles that they name, are those of the sampling
+-- nodes that the lines of some points' sampling describe, with the tiles that they name, are those of the sampling
 abbrev pub LoadedIsSampled : Type 0
 LoadedIsSampled =
     (layout : Layout) (rules : Rules) (files : Files) (points : List Point) (nodes : List Branch) (lines : List NodeLine) → CanBeSampled rules points → TellNodes nodes lines → NameTiles layout files nodes lines → AreWholeOctree lines → AllZip (IsSavedAs layout files) (sampled rules points) lines → AreSampled rules points nodes
 
--- and lines that tell of the nodes of some points' sampling, and name their tiles, are those of the sampling
+-- and lines that describe the nodes of some points' sampling, and name their tiles, are those of the sampling
 abbrev pub SampledIsSaved : Type 0
 SampledIsSaved =
     (layout : Layout) (rules : Rules) (files : Files) (points : List Point) (nodes : List Branch) (lines : List NodeLine) → AreSampled rules points nodes → TellNodes nodes lines → NameTiles layout files nodes lines → AllZip (IsSavedAs layout files) (sampled rules points) lines

@@ -19,15 +19,15 @@ use Rattle.ept_octree_ckpt.specs.declared.error.PhaseError.{PhaseError}
 use Rattle.ept_octree_ckpt.specs.declared.error.PhaseError.TheVariants.{Save}
 use Rattle.ept_octree_ckpt.specs.Errors.{IsDevices}
 
--- the current checkpoint tells of a node of the key with these open octants and so many points
+-- the current checkpoint has a node of the key with these open octants and this number of points
 abbrev pub IsTold : Current → VoxelKey → ℕ → List Point → Type 0
 IsTold current key mask points = OfLine current key (λ c line. (line.mask ≡ mask) × (line.count ≡ length points))
 
--- the current checkpoint has the node as it is: it tells of it, and the tile that it names has these points
+-- the current checkpoint has the node as it is: a line describes it, and the tile that it names has these points
 abbrev pub HasNode : Current → VoxelKey → ℕ → List Point → Files → Type 0
 HasNode current key mask points files = IsTold current key mask points × HasTile current key points files
 
--- at and below the key each node has the open octants and the number of points that the current checkpoint tells of
+-- at and below the key each node has the open octants and the number of points that the current checkpoint has for it
 abbrev pub IsStill : Current → List Branch → VoxelKey → Type 0
 IsStill current nodes key = (b : Branch) → IsMember b nodes → is_within key b.0 ≡ true → IsTold current b.0 b.1.mask b.1.points
 
@@ -35,7 +35,7 @@ IsStill current nodes key = (b : Branch) → IsMember b nodes → is_within key 
 abbrev pub StillAreSame : Current → List Branch → Files → Type 0
 StillAreSame current nodes files = (b : Branch) → IsMember b nodes → IsStill current nodes b.0 → HasTile current b.0 b.1.points files
 
--- the name is that of a version which the current checkpoint does not name, of the tile of a node that it does not have as it is
+-- the name is of a node that the current checkpoint does not have as it is, with a version that it does not name
 abbrev pub IsOfChanged : Current → List Branch → Files → List ℕ → Type 0
 IsOfChanged current nodes files name =
     (b : Branch) × IsMember b nodes × (name ≡ work_tile_name (free_letter current b.0) b.0) × (¬ HasNode current b.0 b.1.mask b.1.points files)
@@ -44,7 +44,7 @@ IsOfChanged current nodes files name =
 abbrev pub PutsChanged : Current → List Branch → Files → Files → Files → Type 0
 PutsChanged current nodes start old new = (name : List ℕ) → ¬ IsOfChanged current nodes start name → new name ≡ old name
 
--- but for the body and the gate of the next checkpoint
+-- except for the body and the gate of the next checkpoint
 abbrev pub SavesChanged : Current → List Branch → Files → Files → Files → Type 0
 SavesChanged current nodes start old new =
     (name : List ℕ) → ¬ IsOfChanged current nodes start name → name ≢ body_name (next_letter current) → name ≢ gate_name (next_letter current) → new name ≡ old name
@@ -57,7 +57,7 @@ StaysLine old new line = (new ≡ old) × (current_line old.current line.key ≡
 abbrev pub ComesLine : View → View → NodeLine → Type 0
 ComesLine old new line = new ≡ record old { lines = with_line line old.lines }
 
--- The node is saved: a line tells of it, which stood in the current checkpoint or is new, and the tile that it names is there.
+-- The node is saved: a line describes it, which stood in the current checkpoint or is new, and the tile that it names is there.
 pub record SavesNode (old new : View) (key : VoxelKey) (mask : ℕ) (points : List Point) (files : Option Files) : Type 0 where
   pub line : NodeLine
   pub is_key : line.key ≡ key
@@ -70,7 +70,7 @@ pub record SavesNode (old new : View) (key : VoxelKey) (mask : ℕ) (points : Li
 abbrev pub keys_in : List Branch → List VoxelKey
 keys_in nodes = map (λ (b : Branch). b.0) nodes
 
--- what each node of a tree keeps: its key is one, and no deeper than may be, and its open octants are the bits of a byte
+-- what each node of a tree keeps: its key has an allowed depth, and its open octants are the bits of a byte
 abbrev pub AreKnown : List Branch → Type 0
 AreKnown nodes = (b : Branch) → IsMember b nodes → IsKey b.0 × (b.1.key.depth ≤ b.1.rules.cube.depth) × (b.1.mask < 2 ^ 8)
 

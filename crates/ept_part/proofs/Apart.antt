@@ -57,7 +57,7 @@ module _ (octants : ℕ) where
           tile-body octants b.0.0 (ap (λ (f : File). f.0) b.2 ∙ (same ∙ sym (ap (λ (f : File). f.0) is)))
       across x y m (inr n) same = absurd n
 
-  -- ---- the lines tell of the tiles
+  -- ---- the lines name the tiles
 
   saved-lines : (files : Files) (nodes : List Branch) → ((b : Branch) → IsMember b nodes → files (part_tile octants b.0) ≡ Some (tile b.1.points)) → AllZip (IsSavedUnder New (part_tile_of octants) files) (map tile_of nodes) (map line_for nodes)
   saved-lines files [] there = tt

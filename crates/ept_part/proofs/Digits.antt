@@ -34,7 +34,7 @@ digits-all octants = refl
 
 -- ---- the names of a folder
 
--- the front of a folder's name, with the digits of the octants below a number
+-- the start of a folder's name, with the digits of the octants below a number
 abbrev pub name_below : ℕ → ℕ → List ℕ
 name_below octants n = codes "ept-work/part-" ++ digits_below octants n
 

@@ -119,7 +119,7 @@ module _ {S : Type 0} (whole : S → Option (List ℕ)) (rules : Rules) (octants
     taken = begun (part_of rules octants points) (part-can rules octants points give.can);
   }
 
-  -- the next ones are brought in
+  -- the next ones are inserted
   pub between-next : (to_come n : ℕ) (reader : Reader S) (tree : Tree) (mine : List Point) (b : IsBetween whole rules octants points to_come reader tree) → mine ≡ part_of rules octants (take n b.left) → HasTaken (part_of rules octants points) (mine ++ part_of rules octants (drop n b.left)) tree
   between-next to_come n reader tree mine b is =
       subst (λ (w : List Point). HasTaken (part_of rules octants points) w tree) (part-split rules octants n b.left ∙ ap (λ (w : List Point). w ++ part_of rules octants (drop n b.left)) (sym is)) b.taken

@@ -1,4 +1,4 @@
--- What a plan tells of the inputs, and why there is no part of them.
+-- What a plan says of the inputs, and why there is no part of them.
 use Rattle.std.proofs.Common.{◌≡◌, ◌∙◌, inl, inr, ℕ, ◌<◌, List, sym, ap, subst, length, Option, Some, None}
 use Rattle.std.specs.Prelude.{Result, Ok, Err, IfOk}
 use Rattle.ept_base.specs.Files.{Files, Tells}
@@ -29,9 +29,9 @@ use Rattle.ept_part.specs.Sampling.{IsGrown}
 use Rattle.ept_part.specs.Making.{IsPartOf, HasInputs, depth_of, node_count, IsRefused}
 use Rattle.ept_part.proofs.Bodies.{scan-kept, part-ready}
 
--- ---- what is told
+-- ---- what is known
 
--- what follows of a told fact is told
+-- what follows of a known fact is known
 pub tells-more : {X : Type 0} (P Q : X → Type 0) → ((x : X) → P x → Q x) → (o : Option X) → Tells P o → Tells Q o
 tells-more P Q more None told = tt
 tells-more P Q more (Some x) told = more x told

@@ -148,7 +148,7 @@ module _ {D : Type 0} (files : D → Option Files) (may_leave : D → Files → 
         (λ a b was fills now. absurd (was (sym (fills gate (λ both. both.0 refl)) ∙ now))) old new shut
         (settled-all (λ f. ¬ IsOpen f gate) (λ a b same was now. was (sym (same gate) ∙ now)) (files old) (may_leave old) shut settled) moved
 
-    -- and it is opened when all of it is stable
+    -- and it is opened when all of it is flushed
     pub open-own : (old new : D) (c : Checkpoint) (points : List Point) → Tells (λ f. HasPart shelf f octants c points) (files old) → IsSettled (files old) (may_leave old) → Stays (SameBut gate) old new → Stays Own old new
     open-own old new c points has settled moved =
         moves_where files may_leave moment image_since (λ f. HasPart shelf f octants c points) (SameBut gate) Own

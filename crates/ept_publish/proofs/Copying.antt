@@ -46,7 +46,7 @@ tile-at files (t ∷ ts) (l ∷ ls) zero line all low is = (t, omega arith, refl
 tile-at files (t ∷ ts) (l ∷ ls) (suc k) line all low is =
     let more = tile-at files ts ls k line all.1 (omega (arith, low)) is in (more.0, omega (arith, more.1), more.2, more.3)
 
--- there are as many
+-- their numbers are equal
 pub as-many : (files : Files) (tiles : List Tile) (lines : List NodeLine) → AllZip (IsSavedAs New files) tiles lines → length tiles ≡ length lines
 as-many files [] [] all = refl
 as-many files [] (l ∷ ls) all = absurd all

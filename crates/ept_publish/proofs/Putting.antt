@@ -92,9 +92,9 @@ pub only-these : (files : List File) (old new : Files) → PutsAll files old new
 only-these files old new put name none =
     put name ∙ other_name old files name (λ g m is. none (contains-IsMember name (names_of files) (subst (λ (n : List ℕ). IsMember n (names_of files)) (sym is) (IsMember-map (λ (f : File). f.0) g files m))))
 
--- ---- answers
+-- ---- results
 
--- a fact holds at Ok
+-- a fact holds on success
 pub any-ok : {E : Type 0} (r : Result (Unit {0}) E) (P : Type 0) → P → OnOk r P
 any-ok (Ok u) P p = p
 any-ok (Err e) P p = tt

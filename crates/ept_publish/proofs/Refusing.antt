@@ -1,4 +1,4 @@
--- Refusals that are handed on.
+-- Refusals that are passed on.
 use Rattle.std.proofs.Common.{◌≡◌, ◌∙◌, inl, inr, refl, sym, ap, subst, Option, Some}
 use Rattle.std.specs.Prelude.{Result, Ok, Err, IfErr}
 use Rattle.ept_base.specs.Files.{Files, Tells}

@@ -27,7 +27,7 @@ output_names kept lines =
     map named_by lines ++ names_of (map hierarchy_file (hierarchy kept.step (map counted_by lines)))
     ++ metadata_name ∷ manifest_name ∷ build_file_name ∷ []
 
--- The current checkpoint's lines name these tiles, in the new layout: each line has the key and the number of points of
+-- The current checkpoint's lines name these tiles, in the new layout. Each line has the key and the number of points of
 -- a tile, and the file that it names is that tile.
 abbrev pub NamesTiles : Files → Current → List Tile → Type 0
 NamesTiles files current tiles = AllZip (IsSavedAs New files) tiles (lines_of current)

@@ -1,4 +1,4 @@
--- What holds of files that were put. Each statement stands on the contract of a function of `laws`.
+-- What holds of files that were put. Each statement follows from the contract of a function of `laws`.
 use Rattle.std.specs.Prelude.{List, Option}
 use Rattle.ept_base.specs.Files.{Files}
 use Rattle.ept_point.specs.declared.point.Point.{Point}

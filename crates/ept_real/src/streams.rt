@@ -17,7 +17,7 @@ pub struct HeldStreams<R: Files> {
 }
 
 impl<R: Files> HeldStreams<R> {
-    /// Takes the descriptors. One that cannot be had is left out: the program runs as it would without this.
+    /// Takes the descriptors. If a descriptor cannot be got it is left out: the program runs as it would without this.
     pub fn hold(machine: &R) -> Self {
         HeldStreams {
             _files: [opened(machine), opened(machine), opened(machine)],

@@ -66,22 +66,22 @@ loaded-whole {T} result t is current key (Some all) comes = λ damaged. elim (co
     no_error : (e : SaveError) → result ≡ Err e → ⊥
     no_error e bad = let both : Ok t ≡ Err e = sym is ∙ bad in absurd (cc)
 
--- ---- a tile that is told as damaged
+-- ---- a tile that is reported as damaged
 
--- refusals that are handed on are one
+-- refusals that are passed on are one
 pub one-refusal : {T U : Type 0} (a : Result T SaveError) (b : Result U SaveError) (e f : SaveError) → a ≡ Err e → b ≡ Err e → b ≡ Err f → a ≡ Err f
 one-refusal {T} {U} a b e f is also told = is ∙ ap (λ (w : SaveError). Err w) (same (sym also ∙ told))
   where
     same : (◌≡◌ {A = Result U SaveError} (Err e) (Err f)) → e ≡ f
     same both = cc
 
--- a refusal of the store tells of no tile
+-- a refusal of the store names no tile
 pub stores-no-tile : {T : Type 0} (r : Result T SaveError) (key : VoxelKey) → IfErr r IsStores → r ≡ Err (TileDamaged key) → ⊥
 stores-no-tile (Ok t) key only is = cc
 stores-no-tile (Err e) key (inl fault) is = let same : Err e ≡ Err (TileDamaged key) = is in let also : e ≡ StoreFault = fault in cc
 stores-no-tile (Err e) key (inr memory) is = let same : Err e ≡ Err (TileDamaged key) = is in let also : e ≡ Memory = memory in cc
 
--- and of the tiles it tells of one
+-- and of the tiles it names one
 pub one-tile : {T : Type 0} (r : Result T SaveError) (key other : VoxelKey) → IfErr r (λ e. (e ≡ TileDamaged key) ⊎ IsStores e) → r ≡ Err (TileDamaged other) → (r ≡ Err (TileDamaged key)) × (key ≡ other)
 one-tile (Ok t) key other only is = absurd (cc)
 one-tile {T} (Err e) key other (inl tile) is = (ap (λ (w : SaveError). Err w) tile, (let same : TileDamaged key ≡ TileDamaged other = sym tile ∙ given is in cc))

@@ -54,7 +54,7 @@ module _ {D : Type 0} (files : D → Option Files) (may_leave : D → Files → 
     | inr was_shut ↦ same-moves old new guarded (stood_shut guarded.all guarded.told was_shut)
   ]
 
-  -- what is read is made stable, and the gate is opened
+  -- what is read is flushed, and the gate is opened
   pub open-guards : (old mid new : D) (guarded : IsGuarded (files old) (may_leave old))
       → Moves files may_leave moment image_since SameFiles old mid → IsSettled (files mid) (may_leave mid)
       → Moves files may_leave moment image_since (SameBut done_name) mid new
@@ -66,7 +66,7 @@ module _ {D : Type 0} (files : D → Option Files) (may_leave : D → Files → 
       (tells_some (λ f. HasOutputOf guarded.all f) (files mid) now.0 now.1 (λ name outside. now.2 name))
       (λ image may name outside. settled_some (files mid) (may_leave mid) now.0 now.1 settled image may name ∙ now.2 name) second)
 
-  -- the store stands for what it stood for
+  -- the store represents what it represented
   pub done-stands : (view : View) (old new : D) → Moves files may_leave moment image_since (SameBut done_name) old new → IsSettled (files new) (may_leave new) → StandsFor view (files old) (may_leave old) → StandsFor view (files new) (may_leave new)
   done-stands view old new moved settled stands =
       let now = stepped (SameBut done_name) (files old) (files new) stands.all stands.told moved.reads in
@@ -75,7 +75,7 @@ module _ {D : Type 0} (files : D → Option Files) (may_leave : D → Files → 
       (has_current-same view.current stands.all now.0 gates (λ letter. now.2 (body_name letter) (λ e. done-body letter (sym e))) stands.has_current)
       (λ begun counts. stands.shut begun (sym (gates (next_letter view.current)) ∙ counts)) settled
 
-  -- and also where what is read is made stable before
+  -- and also if what is read is flushed before
   pub opened-stands : (view : View) (old mid new : D) → Moves files may_leave moment image_since SameFiles old mid → IsSettled (files mid) (may_leave mid) → Moves files may_leave moment image_since (SameBut done_name) mid new → IsSettled (files new) (may_leave new) → StandsFor view (files old) (may_leave old) → StandsFor view (files new) (may_leave new)
   opened-stands view old mid new first settled second then stands =
       done-stands view mid new second then (done-stands view old mid (moves_weaker files may_leave moment image_since SameFiles (SameBut done_name) (λ a b same name apart. same name) old mid first) settled stands)

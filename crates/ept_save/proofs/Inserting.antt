@@ -19,7 +19,7 @@ Entry = VoxelKey × Line
 abbrev keys_of : List Entry → List VoxelKey
 keys_of entries = map (λ (e : Entry). e.0) entries
 
--- lines before a key, and behind it
+-- lines before a key, and after it
 abbrev before : VoxelKey → List NodeLine → List NodeLine
 before key lines = filter (λ (l : NodeLine). is_before l.key key) lines
 
@@ -29,7 +29,7 @@ behind key lines = filter (λ (l : NodeLine). is_before key l.key) lines
 turned : (a b : VoxelKey) (o : Ordering) → key_cmp a b ≡ o → key_cmp b a ≡ ordering_reverse o
 turned a b o is = key_cmp_total.antisymm b a ∙ ap ordering_reverse is
 
--- where all keys stand behind a key, no line is before it, and each is behind it
+-- if all keys are after a key, no line is before it, and each is after it
 all_behind : (key : VoxelKey) (entries : List Entry) → AllByRecursion (λ k. key_cmp key k ≡ Less) (keys_of entries) → (before key (map line_of entries) ≡ []) × (behind key (map line_of entries) ≡ map line_of entries)
 all_behind key [] all = (refl, refl)
 all_behind key (e ∷ es) all =
@@ -38,7 +38,7 @@ all_behind key (e ∷ es) all =
       ap (λ (b : Bool). cond b (line_of e ∷ behind key (map line_of es)) (behind key (map line_of es))) (ap is_lt all.0) ∙ ap (λ (w : List NodeLine). line_of e ∷ w) rest.1,
     )
 
--- what is behind a key that is behind another is behind that other one
+-- what is after a key that is after another is after that other one
 further : (a b : VoxelKey) (keys : List VoxelKey) → key_cmp a b ≡ Less → AllByRecursion (λ k. key_cmp b k ≡ Less) keys → AllByRecursion (λ k. key_cmp a k ≡ Less) keys
 further a b [] low all = tt
 further a b (k ∷ keys) low all = (key_cmp_total.trans a b k low all.0, further a b keys low all.1)
@@ -65,13 +65,13 @@ module _ (key : VoxelKey) (line : Line) where
       ap (λ (w : List NodeLine). line_of e ∷ w) more
       ∙ sym (ap (λ (w : List NodeLine). w ++ line_of (key, line) ∷ behind key (map line_of (e ∷ es))) front ∙ ap (λ (w : List NodeLine). line_of e ∷ (before key (map line_of es) ++ line_of (key, line) ∷ w)) back)
 
-  -- what stands in the map under its keys is the list with this line
+  -- what the map has under its keys is the list with this line
   pub insert-line : (entries : List Entry) → IsStrictlySortedBy key_cmp (keys_of entries) → map line_of (insert_entry key_cmp entries key line) ≡ with_line (line_of (key, line)) (map line_of entries)
   unfolding IsStrictlySortedBy here
   insert-line [] up = refl
   insert-line (e ∷ es) up = step e es (key_cmp key e.0) refl up (insert-line es up.1)
 
--- where each line is before a key, all are before it, and none is behind it
+-- if each line is before a key, all are before it, and none is after it
 all_before : (key : VoxelKey) (lines : List NodeLine) → ((k : ℕ) (d : NodeLine) → k < length lines → key_cmp (get_or lines k d).key key ≡ Less) → (before key lines ≡ lines) × (behind key lines ≡ [])
 all_before key [] low = (refl, refl)
 all_before key (l ∷ lines) low =
@@ -81,7 +81,7 @@ all_before key (l ∷ lines) low =
       ap (λ (b : Bool). cond b (l ∷ behind key lines) (behind key lines)) (ap is_lt (turned l.key key Less here)) ∙ rest.1,
     )
 
--- a line behind all others is put at the end
+-- a line after all others is put at the end
 pub line-behind : (line : NodeLine) (lines : List NodeLine) → ((k : ℕ) (d : NodeLine) → k < length lines → key_cmp (get_or lines k d).key line.key ≡ Less) → with_line line lines ≡ lines ++ line ∷ []
 line-behind line lines low =
     let all = all_before line.key lines low in

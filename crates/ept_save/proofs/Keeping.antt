@@ -36,7 +36,7 @@ tile-saved letter key name apart same = apart (inr (inr (letter, key, same)))
 
 -- ---- which checkpoint is current depends on gates and bodies alone
 
--- a body that stands in other files too
+-- a body that other files have too
 pub body-moved : (letter : Letter) (c : Checkpoint) (one two : Files) → two (body_name letter) ≡ one (body_name letter) → HasBody one letter c → HasBody two letter c
 body-moved letter c one two same has = same ∙ has
 

@@ -1,4 +1,4 @@
--- Lines in key order: the line of a key, those before it and behind it, and a line put in the place of another.
+-- Lines in key order: the line of a key, those before it and after it, and a line put in the place of another.
 use Rattle.std.proofs.Common.{◌≡◌, ◌∙◌, inl, inr, ℕ, zero, suc, ◌+◌, ◌<◌, Bool, true, false, cond, List, [], ◌∷◌, ◌++◌, take, drop, length, get_or, refl, sym, ap, arith, Option, Some, None, Ordering}
 use Rattle.std.specs.Prelude.{AllPairs, filter}
 use Rattle.std.proofs.Math.Seq.{take-suc}
@@ -19,14 +19,14 @@ use Rattle.ept_ckpt.specs.Octree.{keys_of}
 use Rattle.ept_ckpt.specs.Lookup.{line_of_key}
 use Rattle.ept_save.specs.Lines.{is_before, with_line}
 
--- each line stands behind a key, or before it
+-- each line is after a key, or before it
 abbrev pub AreBehind : VoxelKey → List NodeLine → Type 0
 AreBehind key lines = (l : NodeLine) → IsMember l lines → key_cmp key l.key ≡ Less
 
 abbrev pub AreBefore : VoxelKey → List NodeLine → Type 0
 AreBefore key lines = (l : NodeLine) → IsMember l lines → key_cmp l.key key ≡ Less
 
--- each line stands before those behind it
+-- each line is before those after it
 abbrev pub DoAscend : List NodeLine → Type 0
 DoAscend [] = Unit {0}
 DoAscend (l ∷ lines) = AreBehind l.key lines × DoAscend lines
@@ -124,7 +124,7 @@ keep_at key (Some l) lines at high =
       ap (λ (b : Bool). cond b (l ∷ behind key lines) (behind key lines)) back ∙ rest.1,
     )
 
--- the line of a key comes in the place of the one before it, if there was one, behind those before the key
+-- the line of a key comes in the place of the one before it, if there was one, after those before the key
 pub line-between : (line : NodeLine) (done : List NodeLine) (old : Option NodeLine) (lines : List NodeLine) → AreBefore line.key done → ((l : NodeLine) → old ≡ Some l → l.key ≡ line.key) → AreBehind line.key lines → with_line line (done ++ cons_option old lines) ≡ done ++ line ∷ lines
 line-between line done old lines low at high =
     let one = keep_before line.key done low in
@@ -137,7 +137,7 @@ line-between line done old lines low at high =
 
 -- ---- item after item
 
--- the first items, with the next one behind them
+-- the first items, with the next one after them
 pub take-next : {X : Type 0} (xs : List X) (i : ℕ) (x : X) → i < length xs → get_or xs i x ≡ x → take i xs ++ x ∷ [] ≡ take (i + 1) xs
 take-next {X} xs i x inside is =
     ap (λ (y : X). take i xs ++ y ∷ []) (sym is) ∙ (sym (take-suc xs i x inside) ∙ ap (λ (n : ℕ). take n xs) (let after : suc i ≡ i + 1 = omega arith in after))

@@ -34,7 +34,7 @@ use Rattle.ept_save.proofs.TileFiles.{file-tile}
 
 -- ---- the line of a key
 
--- what is found stands in the list, and passes
+-- what is found is in the list, and passes
 pub found_stands : {X : Type 0} (test : X → Bool) (xs : List X) (x : X) → find test xs ≡ Some x → (i : ℕ) × (i < length xs) × (get_or xs i x ≡ x) × (test x ≡ true)
 found_stands test [] x e = cc
 found_stands {X} test (y ∷ xs) x e = by_test (test y) refl (found_stands test xs x) e
@@ -130,7 +130,7 @@ module _ (current : Current) (key : VoxelKey) (at : Letter × Checkpoint) (line 
   loaded-intact once (Ok node) (Some all) are has = λ damaged.
       not-damaged-line once (layout_of at.1.version) (rules_of at.1.kept) line node.points all are has (at-line current key at line (λ c l. IsDamagedLine (layout_of c.version) (rules_of c.kept) l all) is found damaged)
 
-  -- and one that was told as damaged is told by that key
+  -- and one that was reported as damaged is named by that key
   pub loaded-only : (result : Result Node SaveError) → IfErr result (λ e. (e ≡ TileDamaged line.key) ⊎ IsStores e) → IfErr result (λ e. (e ≡ TileDamaged key) ⊎ IsStores e)
   loaded-only (Ok node) only = tt
   loaded-only (Err e) only = subst (λ (k : VoxelKey). (e ≡ TileDamaged k) ⊎ IsStores e) (line-key at.1.nodes key line found) only
@@ -160,7 +160,7 @@ pub handed-on : {X Y : Type 0} (inner : Result X SaveError) (outer : Result Y Sa
 handed-on {X} {Y} inner outer e was is stores =
     subst (λ (r : Result Y SaveError). IfErr r IsStores) (sym is) (subst (λ (r : Result X SaveError). IfErr r IsStores) was stores)
 
--- ---- why it is told as damaged
+-- ---- why it is reported as damaged
 
 pub is-wrong : (layout : Layout) (rules : Rules) (line : NodeLine) (bytes : List ℕ) (points slice : List Point) → slice ≡ points → ReadsIn layout bytes (Ok points)
     → (length slice ≢ line.count) ⊎ ((fault : GridError) × IsTileFault line.key rules line.mask slice fault) → IsWrong layout rules line bytes
@@ -169,7 +169,7 @@ is-wrong layout rules line bytes points slice same reads why = elim why [
   | inr unfit ↦ inr (inr (points, reads, (unfit.0, subst (λ (w : List Point). IsTileFault line.key rules line.mask w unfit.0) same unfit.1)))
 ]
 
--- what stands behind the old points
+-- what comes after the old points
 pub behind-old : (old points new now : List Point) (n : ℕ) → length old ≡ n → now ≡ new → new ≡ old ++ points → take (length now - n) (drop n now) ≡ points
 behind-old old points new now n is same e =
     take_rest now n ∙ (ap (λ (w : List Point). drop n w) (same ∙ e) ∙ drop_at old points n is)

@@ -97,7 +97,7 @@ module _ (letter : Letter) (c next : Checkpoint) (turn : IsTurnOf c next) where
     pub kept-moves : (start : Files) (old new : D) → Moves files may_leave moment image_since (Keeps (Some (letter, c))) old new → Moves files may_leave moment image_since (Migrates letter c next start) old new
     kept-moves start old new = moves_weaker files may_leave moment image_since (Keeps (Some (letter, c))) (Migrates letter c next start) (keeps-migrates start) old new
 
-    -- and behind that the next one is committed
+    -- and after that the next one is committed
     pub commit-moves : (start there : Files) (old mid new : D) → ArePutAgain start there c.nodes → Moves files may_leave moment image_since (Keeps (Some (letter, c))) old mid → Moves files may_leave moment image_since (Commits (Some (letter, c)) (other letter) next there) mid new → Moves files may_leave moment image_since (Migrates letter c next start) old new
     commit-moves start there old mid new put =
         moves_both files may_leave moment image_since (Keeps (Some (letter, c))) (Commits (Some (letter, c)) (other letter) next there) (Migrates letter c next start)
@@ -154,7 +154,7 @@ damaged-kept current key (Some a) (Some b) keeps is = damaged-before current key
 
 -- ---- what is reported
 
--- a refusal that is handed on
+-- a refusal that is passed on
 pub some-tile : {T U : Type 0} (inner : Result T SaveError) (outer : Result U SaveError) (e : SaveError) → inner ≡ Err e → outer ≡ Err e → (key : VoxelKey) → IfErr inner (λ e. (e ≡ TileDamaged key) ⊎ IsStores e) → IfErr outer (λ e. ((key : VoxelKey) × (e ≡ TileDamaged key)) ⊎ IsStores e)
 some-tile {T} {U} inner outer e was is key only =
     subst (λ (r : Result U SaveError). IfErr r (λ e. ((key : VoxelKey) × (e ≡ TileDamaged key)) ⊎ IsStores e)) (sym is)
@@ -192,7 +192,7 @@ stores-only {T} (Err e) current files all told only damaged none = elim only [
 
 -- ---- sound files stay sound
 
--- the tiles of the nodes stand in the new layout
+-- the tiles of the nodes are in the new layout
 turned_tiles : (start now : Files) (tiles : List Tile) (lines : List NodeLine) → AllZip (IsSavedAs Old start) tiles lines → ArePutAgain start now lines → AllZip (IsSavedAs New now) tiles (map turned lines)
 turned_tiles start now [] [] saved put = tt
 turned_tiles start now [] (l ∷ lines) saved put = absurd saved

@@ -56,7 +56,7 @@ body-tile A B key same = let differ : 111 ≡ 47 = ap (at 10) same in absurd (om
 body-tile B A key same = let differ : 98 ≡ 97 = ap (at 9) same in absurd (omega (arith, differ))
 body-tile B B key same = let differ : 111 ≡ 47 = ap (at 10) same in absurd (omega (arith, differ))
 
--- two tiles have one name only where letter and key are the same
+-- two tiles have one name only if letter and key are the same
 pub tile-letter : (one two : Letter) (a b : VoxelKey) → work_tile_name one a ≡ work_tile_name two b → one ≡ two
 unfolding work_tile_name
 tile-letter A A a b same = refl

@@ -96,7 +96,7 @@ one-bad files A B first second = absurd (second.0 first)
 one-bad files B A first second = absurd (first.0 second)
 one-bad files B B first second = refl
 
--- so none is told of them
+-- so none is among them
 pub only-stores : {T : Type 0} (result : Result T SaveError) (files : Option Files) (current : Current) (all : Files) → files ≡ Some all → HasCurrent current all → ((which : Letter) → result ≡ Err (BadCheckpoint which) → Tells (λ f. IsBad f which) files) → IfErr result (λ e. (key : VoxelKey) → e ≢ TileDamaged key) → IfErr result IsStores
 only-stores (Ok t) files current all told has bad no_tile = tt
 only-stores (Err StoreFault) files current all told has bad no_tile = inl refl

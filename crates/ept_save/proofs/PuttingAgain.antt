@@ -42,7 +42,7 @@ pub record IsTurned (current : Current) (start now : Files) (line : NodeLine) : 
   pub again : IsPutAgain start now line
   pub intact : ¬ IsDamaged current line.key start
 
--- so many of the lines are turned, and their tiles put again
+-- this number of the lines is turned, and their tiles put again
 pub record IsTurnedTo (start now : View) (items : List NodeLine) (i : ℕ) (first files : Option Files) : Type 0 where
   pub view_is : now ≡ record start { lines = turned_to i items }
   pub tiles : (all : Files) → first ≡ Some all → Tells (λ here. AllByRecursion (IsTurned start.current all here) (take i items)) files
@@ -71,7 +71,7 @@ first_of (x ∷ lines) zero l m = absurd m
 first_of (x ∷ lines) (suc i) l (inl is) = inl is
 first_of (x ∷ lines) (suc i) l (inr m) = inr (first_of lines i l m)
 
--- the tiles that were put stand in other files too, where those names read the same
+-- the tiles that were put are in other files too, if those names read the same
 still_turned : (current : Current) (start old new : Files) (lines : List NodeLine) → ((l : NodeLine) → IsMember l lines → new (tile_of_line (turned l)) ≡ old (tile_of_line (turned l))) → AllByRecursion (IsTurned current start old) lines → AllByRecursion (IsTurned current start new) lines
 still_turned current start old new [] same all = tt
 still_turned current start old new (l ∷ lines) same all = (

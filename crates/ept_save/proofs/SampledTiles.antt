@@ -1,4 +1,4 @@
--- A node of a sampling is one as its tile and its mask tell it.
+-- A node of a sampling is one as its tile and its mask give it.
 use Rattle.std.proofs.Common.{◌≡◌, ◌∙◌, ℕ, ◌<◌, ◌≤◌, ◌^◌, Bool, true, false, not, ◌&&◌, ◌==◌, nat_lt, inl, inr, List, [], ◌∷◌, Option, Some, None, zero, suc, refl, sym, ap, subst, arith, length, get_or}
 use Rattle.std.specs.Prelude.{position}
 use Rattle.std.specs.Int.{bit_at}
@@ -53,7 +53,7 @@ sampling_kept : (rules : Rules) (points : List Point) (key : VoxelKey) → sampl
 unfolding sampling
 sampling_kept rules points key = refl
 
--- an octant is too full with fewer losers, only where it is with more
+-- an octant is too full with fewer losers, only if it is with more
 overflows-fewer : (rules : Rules) (depth : ℕ) (few many : List Point) (o : ℕ) → length (losers rules depth few o) ≤ length (losers rules depth many o) → overflows rules depth many o ≡ false → overflows rules depth few o ≡ false
 unfolding overflows
 overflows-fewer rules depth few many o le fits = less (nat_lt depth rules.cube.depth) rules.threshold (length (losers rules depth few o)) (length (losers rules depth many o)) le fits
@@ -104,7 +104,7 @@ module _ (rules : Rules) (points : List Point) (can : CanBeSampled rules points)
             ∙ overflows-fewer rules key.depth here all o (subst (λ (w : List Point). length (losers rules key.depth w o) ≤ length (losers rules key.depth all o)) (sym (sampling_kept rules points key)) (losers-kept rules key.depth none_open all o)) (closed-fits o low e)
       ]
 
-  -- the node is one as its tile and its mask tell it
+  -- the node is one as its tile and its mask give it
   pub sampled-IsTile : IsTile key rules mask here
   sampled-IsTile = record {
     inside = All-members (λ (p : Point). InBox rules.cube key (place p)) here (λ p m.

@@ -1,4 +1,4 @@
--- What a store stands for, from call to call.
+-- What a store represents, from call to call.
 use Rattle.std.proofs.Common.{◌≡◌, ◌≢◌, ◌∙◌, ◌⊎◌, inl, inr, ℕ, Bool, true, false, List, [], ◌∷◌, refl, sym, subst, ap, Option, Some, None}
 use Rattle.std.specs.Prelude.{bytes_eq}
 use Rattle.std.proofs.lemmas.Slice.Eq.{bytes_eq-Decides}
@@ -27,7 +27,7 @@ open_or_not files name = by_content (files name)
     by_content None = inr (λ same. cc)
     by_content (Some bytes) = by_bytes bytes (bytes_eq bytes (1 ∷ [])) (bytes_eq-Decides bytes (1 ∷ [])).0 (bytes_eq-Decides bytes (1 ∷ [])).1
 
--- a store that tells goes on telling
+-- a store that can be read stays so
 pub stepped : (step : Files → Files → Type 0) (old new : Option Files) (all : Files) → old ≡ Some all → StepsBy step old new → (now : Files) × (new ≡ Some now) × step all now
 stepped step old new all told moved = from_some new (subst (λ (o : Option Files). StepsBy step o new) told moved)
   where
@@ -67,7 +67,7 @@ in-images view files may_leave stands = record {
   shut = λ begun image may counts. stands.shut begun (sym ((stands.agrees image may).gates (next_letter view.current)) ∙ counts);
 }
 
--- a settled store with this current checkpoint stands for it
+-- a settled store with this current checkpoint represents it
 pub settled-stands : (view : View) (files : Option Files) (may_leave : Files → Type 0) (all : Files) → files ≡ Some all → HasCurrent view.current all → (view.begun ≡ true → ¬ Counts all (next_letter view.current)) → IsSettled files may_leave → StandsFor view files may_leave
 settled-stands view files may_leave all told has shut settled = record {
   all = all;
@@ -147,7 +147,7 @@ module _ {D : Type 0} (files : D → Option Files) (may_leave : D → Files → 
   pub same_twice : (old mid new : D) → Moves files may_leave moment image_since SameFiles old mid → Moves files may_leave moment image_since SameFiles mid new → Moves files may_leave moment image_since SameFiles old new
   same_twice old mid new first second = moves_both files may_leave moment image_since SameFiles SameFiles SameFiles (λ a b c f s name. s name ∙ f name) (λ a b same. same) old mid new first second
 
-  -- where nothing changes, a settled store stands for what it has
+  -- if nothing changes, a settled store represents what it has
   pub opened-stands : (view : View) (old new : D) (all : Files) → files old ≡ Some all → HasCurrent view.current all → view.begun ≡ false → IsSettled (files old) (may_leave old) → Moves files may_leave moment image_since SameFiles old new → StandsFor view (files new) (may_leave new)
   opened-stands view old new all told has begun settled same =
       let now = stepped SameFiles (files old) (files new) all told same.reads in
@@ -161,7 +161,7 @@ module _ {D : Type 0} (files : D → Option Files) (may_leave : D → Files → 
         shut = λ is_begun. absurd (let wrong : false ≡ true = sym begun ∙ is_begun in cc);
       }
 
-  -- and a store stands for what it stood for
+  -- and a store represents what it represented
   pub same-stands : (view : View) (old new : D) → Moves files may_leave moment image_since SameFiles old new → StandsFor view (files old) (may_leave old) → StandsFor view (files new) (may_leave new)
   same-stands view old new same stands =
       let now = stepped SameFiles (files old) (files new) stands.all stands.told same.reads in

@@ -77,7 +77,7 @@ module _ (current : Current) (key : VoxelKey) (at : Letter × Checkpoint) (line 
   not_other bytes all has measure other =
       measured (tile_of_line line) bytes line all has measure (at-line current key at line (λ c l. IsOfOtherLengthUnder (tile_of_line l) l all) is found other)
 
-  -- a refusal is told by the key
+  -- a refusal is named by the key
   pub only-key : {T : Type 0} (result : Result T SaveError) → IfErr result (λ e. (e ≡ TileDamaged line.key) ⊎ IsStores e) → IfErr result (λ e. (e ≡ TileDamaged key) ⊎ IsStores e)
   only-key (Ok t) only = tt
   only-key (Err e) only = subst (λ (k : VoxelKey). (e ≡ TileDamaged k) ⊎ IsStores e) (line-key at.1.nodes key line found) only

@@ -52,13 +52,13 @@ turned-nodes points lines are = record { octree = turned-octree lines are.octree
 
 -- ---- line by line
 
--- the lines behind one
+-- the lines after one
 behind-next : (lines : List NodeLine) (i : ℕ) (line l : NodeLine) → DoAscend lines → i < length lines → get_or lines i line ≡ line → IsMember l (drop (suc i) lines) → key_cmp line.key l.key ≡ Less
 behind-next [] i line l up inside is m = absurd (omega (arith, inside))
 behind-next (x ∷ xs) zero line l up inside is m = subst (λ (w : NodeLine). key_cmp w.key l.key ≡ Less) is (up.0 l m)
 behind-next (x ∷ xs) (suc i) line l up inside is m = behind-next xs i line l up.1 (omega (arith, inside)) is m
 
--- so many lines are turned, and the others are not
+-- this number of lines is turned, and the others are not
 abbrev pub turned_to : ℕ → List NodeLine → List NodeLine
 turned_to i lines = map turned (take i lines) ++ drop i lines
 

@@ -40,7 +40,7 @@ pub record WasWhole (c : Checkpoint) (points : List Point) (output : List File) 
   pub inserted : c.inserted ≡ length points
   pub there : All (λ name. IsSome (files name)) (names_of output)
 
--- outside a build's own folders there are only names of the output of these points, and all of them if the gate of before is open
+-- outside a build's own folders there are only names of the output of these points; all of them, if the gate of before is open
 pub record HadAtMost (c : Checkpoint) (points : List Point) (files : Files) : Type 0 where
   pub output : List File
   pub is_output : IsOutput c.kept points output

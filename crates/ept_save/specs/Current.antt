@@ -34,7 +34,7 @@ abbrev pub HasCurrent : Current → Files → Type 0
 HasCurrent None files = (letter : Letter) → ¬ Counts files letter
 HasCurrent (Some (letter, c)) files = IsCurrent files letter c
 
--- the name of the tile that a line tells of
+-- the name of the tile that a line names
 abbrev pub tile_of_line : NodeLine → List ℕ
 tile_of_line line = work_tile_name line.letter line.key
 

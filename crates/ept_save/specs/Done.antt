@@ -1,4 +1,4 @@
--- The done gate: it is open only where the files of the output are whole.
+-- The done gate: it is open only if the files of the output are whole.
 use Rattle.std.specs.Prelude.{◌≡◌, ℕ, List, Option, Some}
 use Rattle.ept_base.specs.Files.{Files, SameBut}
 use Rattle.ept_meta.specs.Output.{IsOutsideWork}
@@ -13,7 +13,7 @@ IsDone files = IsOpen files done_name
 abbrev pub HasOutputOf : Files → Files → Type 0
 HasOutputOf one two = (name : List ℕ) → IsOutsideWork name → two name ≡ one name
 
--- Of a store that tells: where the done gate is open in what is read or in some image, each image has the files of the output as they are read.
+-- If the done gate is open in what is read or in an image, each image has the output as it is read.
 pub record IsGuarded (files : Option Files) (may_leave : Files → Type 0) : Type 0 where
   pub all : Files
   pub told : files ≡ Some all

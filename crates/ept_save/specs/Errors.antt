@@ -1,4 +1,4 @@
--- What the refusals of a store are told as.
+-- How the refusals of a store are reported.
 use Rattle.std.specs.Prelude.{◌≡◌, ◌⊎◌}
 use Rattle.ept_base.specs.declared.errors.GetError.{GetError}
 use Rattle.ept_base.specs.declared.errors.GetError.TheVariants as get

@@ -9,7 +9,7 @@ use Rattle.ept_ckpt.specs.Lookup.{line_of_key}
 use Rattle.ept_save.specs.Names.{other}
 use Rattle.ept_save.specs.Current.{Current}
 
--- the other version than the one that a line tells of, or a
+-- the other version than the one that a line names, or a
 abbrev pub free_of : Option NodeLine → Letter
 free_of None = A
 free_of (Some line) = other line.letter
@@ -23,7 +23,7 @@ free_letter (Some (letter, c)) key = free_of (line_of_key c.nodes key)
 abbrev pub is_before : VoxelKey → VoxelKey → Bool
 is_before a b = is_lt (key_cmp a b)
 
--- the lines before this one, this one, and the lines behind it
+-- the lines before this one, this one, and the lines after it
 abbrev pub with_line : NodeLine → List NodeLine → List NodeLine
 with_line line lines =
     filter (λ l. is_before l.key line.key) lines ++ line ∷ filter (λ l. is_before line.key l.key) lines

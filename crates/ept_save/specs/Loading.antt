@@ -38,7 +38,7 @@ OfLine (Some (letter, c)) key fact = IsSomeAnd (line_of_key c.nodes key) (fact c
 
 -- ---- what is found
 
--- The points are as many as the line counts, their ids ascend, and with the line's open octants they are those of a node of its key.
+-- The number of points is the line's count, and their ids ascend. With the line's open octants they are those of a node of its key.
 pub record AreOfLine (rules : Rules) (line : NodeLine) (points : List Point) : Type 0 where
   pub counted : length points ≡ line.count
   pub ascend : IsAscending points
@@ -56,7 +56,7 @@ HasTile current key points files = OfLine current key (λ c line. HasTileUnder (
 abbrev pub IsNodeFound : Current → VoxelKey → Node → Type 0
 IsNodeFound current key node = OfLine current key (λ c line. IsNodeOf key (rules_of c.kept) line.mask node.points node)
 
--- points are appended, and are those that were found; of files that are told they are the tile's
+-- points are appended, and are those that were found; of files that are known they are the tile's
 pub record AppendsFound (current : Current) (key : VoxelKey) (files : Option Files) (old new : List Point) : Type 0 where
   pub points : List Point
   pub appended : new ≡ old ++ points
@@ -67,25 +67,25 @@ pub record AppendsFound (current : Current) (key : VoxelKey) (files : Option Fil
 abbrev pub HasBytes : Current → VoxelKey → List ℕ → Files → Type 0
 HasBytes current key bytes files = OfLine current key (λ c line. files (tile_of_line line) ≡ Some bytes)
 
--- they are as many as the points that the line counts take in the new layout
+-- their number is that of the points which the line's count takes in the new layout
 abbrev pub HasLength : Current → VoxelKey → List ℕ → Type 0
 HasLength current key bytes = OfLine current key (λ c line. length bytes ≡ packed_width * line.count)
 
 -- ---- why it is damaged
 
--- The bytes are no tile of the layout, or one with another number of points, or its points are those of no node with this key and these open octants.
+-- The bytes are no tile of the layout, or one with another number of points. Or its points are those of no node with this key and these open octants.
 abbrev pub IsWrong : Layout → Rules → NodeLine → List ℕ → Type 0
 IsWrong layout rules line bytes =
     ((fault : TileError) × ReadsIn layout bytes (Err fault))
     ⊎ ((points : List Point) × ReadsIn layout bytes (Ok points) × (length points ≢ line.count))
     ⊎ ((points : List Point) × ReadsIn layout bytes (Ok points) × ((fault : GridError) × IsTileFault line.key rules line.mask points fault))
 
--- the file of this name, which is to be the tile of the line, is absent, or wrong
+-- the file of this name, which is to be the tile of the line, is missing, or wrong
 abbrev pub IsDamagedUnder : Layout → Rules → List ℕ → NodeLine → Files → Type 0
 IsDamagedUnder layout rules name line files =
     (files name ≡ None) ⊎ ((bytes : List ℕ) × (files name ≡ Some bytes) × IsWrong layout rules line bytes)
 
--- the file that the line names is absent, or wrong
+-- the file that the line names is missing, or wrong
 abbrev pub IsDamagedLine : Layout → Rules → NodeLine → Files → Type 0
 IsDamagedLine layout rules line files = IsDamagedUnder layout rules (tile_of_line line) line files
 

@@ -26,7 +26,7 @@ pub record IsTurnOf (c next : Checkpoint) : Type 0 where
   pub inserted_is : next.inserted ≡ c.inserted
   pub turned_are : next.nodes ≡ map turned c.nodes
 
--- the points that the file of the line has at the start, in the old layout, stand in the new one under its other version
+-- the points that the file of the line has at the start, in the old layout, are in the new one under its other version
 pub record IsPutAgain (start now : Files) (line : NodeLine) : Type 0 where
   pub points : List Point
   pub was : HasTileUnder Old (tile_of_line line) points start
@@ -41,7 +41,7 @@ pub record Migrates (letter : Letter) (c next : Checkpoint) (start old new : Fil
   pub either : Keeps (Some (letter, c)) old new ⊎ (IsCurrent new (other letter) next × ArePutAgain start new c.nodes)
   pub apart : (name : List ℕ) → ¬ IsSavedName name → new name ≡ old name
 
--- the next checkpoint is noted as the current one, with its lines for the one behind it
+-- the next checkpoint is noted as the current one, with its lines for the one after it
 pub record HasMigrated (old new : View) : Type 0 where
   pub letter : Letter
   pub c : Checkpoint

@@ -8,7 +8,7 @@ use Rattle.ept_ckpt.specs.declared.checkpoint.Checkpoint.{Checkpoint}
 use Rattle.ept_save.specs.Gates.{Counts}
 use Rattle.ept_save.specs.Current.{Current, HasBody}
 
--- the letter counts, and its body is absent or that of no checkpoint
+-- the letter counts, and its body is missing or that of no checkpoint
 pub record IsBroken (files : Files) (letter : Letter) : Type 0 where
   pub counts : Counts files letter
   pub no_body : (c : Checkpoint) → ¬ HasBody files letter c
@@ -23,7 +23,7 @@ pub record AreAlike (files : Files) : Type 0 where
   pub has_b : HasBody files B two
   pub same : one.generation ≡ two.generation
 
--- the letter that is told as bad: a where it is broken; else b, where it is broken or both are alike
+-- the letter that is reported as bad: a if it is broken; else b, if it is broken or both are alike
 abbrev pub IsBad : Files → Letter → Type 0
 IsBad files A = IsBroken files A
 IsBad files B = ¬ IsBroken files A × (IsBroken files B ⊎ AreAlike files)

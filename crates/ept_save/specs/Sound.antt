@@ -1,4 +1,4 @@
--- When the files of a build are sound: what the current checkpoint tells is so, for the scans on a shelf.
+-- When the files of a build are sound: what the current checkpoint states is so, for the scans on a shelf.
 use Rattle.std.specs.Prelude.{◌≡◌, ℕ, List, length, take, Some, None}
 use Rattle.std.specs.List.{AllZip}
 use Rattle.ept_base.specs.Files.{Files}
@@ -17,14 +17,14 @@ use Rattle.ept_save.specs.Done.{IsDone}
 use Rattle.ept_save.specs.Complete.{HasAllOf, HasNoOther}
 use Rattle.ept_save.specs.Tiles.{HasTileUnder}
 
--- ---- what a checkpoint tells
+-- ---- what a checkpoint states
 
 -- the inputs of the checkpoint have these points, within its bounds and with its counts
 abbrev pub HasPointsOf : Files → Checkpoint → List Point → Type 0
 HasPointsOf shelf c points =
     IsScan shelf c.kept.scale (Some c.kept.bounds) c.kept.inputs 0 points (record { counts = c.counts; bounds = c.kept.bounds })
 
--- the line is of this node, and its file by a rule of names is the node's tile in a layout; the mask follows from the keys of all lines
+-- the line is of this node, and its file by a rule of names is the node's tile in a layout. The mask follows from the keys of all lines.
 pub record IsSavedUnder (layout : Layout) (name_of : NodeLine → List ℕ) (files : Files) (node : Tile) (line : NodeLine) : Type 0 where
   pub key : line.key ≡ node.key
   pub count : line.count ≡ length node.points
@@ -54,7 +54,7 @@ pub record HasAtMost (c : Checkpoint) (points : List Point) (files : Files) : Ty
 
 -- ---- sound files
 
--- what the current checkpoint tells is so; where there is none, nothing is done
+-- what the current checkpoint states is so; if there is none, nothing is done
 abbrev pub IsSoundFor : Files → Files → Current → Type 0
 IsSoundFor shelf files None = ¬ IsDone files × ((name : List ℕ) → IsOutsideWork name → files name ≡ None)
 IsSoundFor shelf files (Some (letter, c)) = (points : List Point) × IsSaved shelf files c points × HasAtMost c points files

@@ -1,4 +1,4 @@
--- What holds of sound files. Each statement stands on the contract of a function of `laws`.
+-- What holds of sound files. Each statement follows from the contract of a function of `laws`.
 use Rattle.std.specs.Prelude.{◌≡◌, ◌⊎◌, ℕ, List, length, Some, None, ⊤, Contains, slice_get}
 use Rattle.ept_base.specs.Files.{Files, SameFiles}
 use Rattle.ept_point.specs.declared.point.Point.{Point}
@@ -71,8 +71,8 @@ HaveSameInputs one two None = ⊤
 HaveSameInputs one two (Some (letter, c)) =
     (i : ℕ) (input : Input) → slice_get c.kept.inputs i ≡ Some input → two input.path ≡ one input.path
 
--- and of the shelf on the inputs of the current checkpoint alone: so a folder stays sound where scans are added, or
--- another configuration lies there
+-- and of the shelf on the inputs of the current checkpoint alone. So a folder stays sound if scans are added, or
+-- another configuration lies there.
 abbrev pub InputsAreEnough : Type 0
 InputsAreEnough =
     (one two files : Files) (current : Current) → HasCurrent current files → HaveSameInputs one two current → IsSound one files → IsSound two files

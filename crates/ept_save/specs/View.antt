@@ -29,8 +29,8 @@ abbrev pub next_generation : Current → ℕ
 next_generation None = 1
 next_generation (Some (letter, c)) = c.generation + 1
 
--- What a store stands for. It tells; the checkpoint is the current one of what is read; each image agrees with that;
--- and where the next checkpoint is begun, its letter does not count.
+-- What a store represents. It can be read; the checkpoint is the current one of what is read; each image agrees with that.
+-- If the next checkpoint is begun, its letter does not count.
 pub record StandsFor (view : View) (files : Option Files) (may_leave : Files → Type 0) : Type 0 where
   pub all : Files
   pub told : files ≡ Some all
@@ -55,8 +55,8 @@ abbrev pub IsNewer : Current → Checkpoint → Type 0
 IsNewer None next = ⊤
 IsNewer (Some (letter, c)) next = c.generation < next.generation
 
--- In each image the checkpoint is the current one, and the tiles that it names are those that are read; and where the
--- next one is begun, its letter counts in none.
+-- In each image the checkpoint is the current one, and the tiles that it names are those that are read. If the next one
+-- is begun, its letter counts in none.
 pub record IsInEachImage (view : View) (all : Files) (may_leave : Files → Type 0) : Type 0 where
   pub current : (image : Files) → may_leave image → HasCurrent view.current image
   pub tiles : (image : Files) → may_leave image → (name : List ℕ) → IsNamed view.current name → image name ≡ all name

@@ -20,7 +20,7 @@ use Rattle.ept_save.specs.View.{next_generation}
 not_before : (a b : VoxelKey) → a ≡ b → is_before a b ≡ false
 not_before a b same = ap is_lt (key_cmp-same a b same)
 
--- the new line stands in place of the old one
+-- the new line is in place of the old one
 in-place : (line new : NodeLine) → new.key ≡ line.key → with_line new (line ∷ []) ≡ new ∷ []
 in-place line new same =
     by_tests (is_before line.key new.key) (is_before new.key line.key) (not_before line.key new.key (sym same)) (not_before new.key line.key same)
@@ -29,7 +29,7 @@ in-place line new same =
     by_tests before behind e f =
         ap (λ (b : Bool). cond b (line ∷ []) [] ++ new ∷ cond behind (line ∷ []) []) e ∙ ap (λ (b : Bool). new ∷ cond b (line ∷ []) []) f
 
--- it tells of the same node, under another letter
+-- it describes the same node, under another letter
 under : Letter → NodeLine → NodeLine
 under letter line = record { key = line.key; count = line.count; mask = line.mask; letter = letter }
 

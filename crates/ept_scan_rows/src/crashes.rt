@@ -23,11 +23,11 @@ use ept_save::{
 use ept_space::Key;
 use std::alloc::Global;
 
-/// `crash PASSES | STORE | OLD | NEW`: the next checkpoint is committed over a store that passes PASSES calls, with
-/// the points NEW in its root, between closing and opening the done gate. A checkpoint with tiles of the old layout is
-/// only taken over, after the done gate is closed. It reports the result, and then for each kind of crash the
-/// generation of the checkpoint that is opened, whether its root has the points OLD or NEW, and whether the output is
-/// done.
+/// `crash PASSES | STORE | OLD | NEW`: commits the next checkpoint over a store that passes PASSES calls. Its root has
+/// the points NEW. Before it the done gate is closed, and after it opened. A checkpoint with tiles of the old layout is
+/// only taken over, after the done gate is closed. It reports the result. For each kind of crash it reports the
+/// generation of the checkpoint that is opened. With it comes whether the root has the points OLD or NEW, and whether the
+/// output is done.
 pub(crate) fn crash(row: Row<'_>, out: &mut String) -> Answered {
     let passes = count(row.part(0)?)?;
     let old = points_of(row, row.part(2)?)?;
@@ -74,8 +74,8 @@ fn every_call(alloc: Global, store: &mut MemStore, points: &[Point]) -> Result<(
     open_done(store)
 }
 
-// Commits the next checkpoint, whose root has these points, where it is the only node and has as many as in
-// the current one.
+// Commits the next checkpoint, whose root has these points. It is the only node, and their number is that of the
+// current one.
 fn commit_root(
     alloc: Global,
     store: &mut MemStore,
@@ -100,8 +100,8 @@ fn commit_root(
     commit(alloc, store, saved, &kept, &counts, inserted)
 }
 
-// The line of the root, where it is the only node and has this number of points, and where one more commit may follow
-// that brings no point.
+// The line of the root, if it is the only node and has this number of points. One more commit, which adds no point, has
+// to be possible.
 fn only_root(checkpoint: &Checkpoint, points: u64) -> Option<NodeLine>
     ensures { ForSome result (λ line. (checkpoint.now.nodes ≡ line ∷ [])
         × (checkpoint.now.generation ≤ checkpoint.now.inserted) × (line.key ≡ root) × (line.count ≡ points)) }

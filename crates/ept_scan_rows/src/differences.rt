@@ -1,4 +1,4 @@
-//! What is given beside what is kept.
+//! What is given, compared with what is kept.
 
 use crate::bytes::show;
 use crate::configs::kept_of;

@@ -84,8 +84,8 @@ fn show_entries(entries: &[(Key, i64)], out: &mut String) -> Answered {
     Ok(())
 }
 
-/// `hierarchy-again STEP NODES`: how many files these nodes have, and in all their files together how many entries
-/// there are, how many of them are links, and what the counts of the others add up to.
+/// `hierarchy-again STEP NODES`: how many files these nodes have. It also reports how many entries all files have
+/// together, how many of these are links, and the sum of the counts of the others.
 pub(crate) fn hierarchy_again(row: Row<'_>, out: &mut String) -> Answered {
     let (step, words) = row.rest.split_once(' ').ok_or(Stop::BadLine)?;
     let step = step.parse().ok().ok_or(Stop::BadLine)?;

@@ -27,7 +27,7 @@ const PLAIN: Head = Head {
 };
 
 /// The file of these words. `X,Y,Z` is a record there, with all else zero; `minor=N`, `format=N`, `size=N`,
-/// `start=N`, `length=N` and `points=N` change what the header states; each other word stands for bytes that follow.
+/// `start=N`, `length=N` and `points=N` change what the header states; each other word means bytes that follow.
 /// Each place counts as a point in the header, unless a later `points=N` sets another number.
 pub(crate) fn las_of(row: Row<'_>, words: &str) -> Result<Vec<u8>, Stop> {
     let head = head_of(words)?;
@@ -80,7 +80,7 @@ fn set_head(file: &mut [u8], head: Head) {
     }
 }
 
-// Appends the record of a word, or the bytes that it stands for.
+// Appends the record of a word, or the bytes that it means.
 fn append_record(row: Row<'_>, head: Head, word: &str, file: &mut Vec<u8>) -> Answered {
     if word.contains(',') {
         return append_place(head, place(word)?, file);

@@ -1,4 +1,4 @@
-//! Answers the lines of its standard input, each a call of one of the crates that read configurations, scans,
+//! Carries out the lines of its standard input. Each is a call of one of the crates that read configurations, scans,
 //! checkpoints and the texts of an output.
 #![tactic(auto)]
 
@@ -47,7 +47,7 @@ fn main(rt: HostRuntime) -> io::Result<()> {
     Ok(())
 }
 
-// Copies a comment, an empty line and a line that gives a name, and answers each other line.
+// Copies a comment, an empty line and a line that gives a name, and carries out each other line.
 fn answer_line(row: Row<'_>, out: &mut String) -> Answered {
     let line = row.rest;
     let (call, rest) = line.split_once(' ').unwrap_or((line, ""));

@@ -21,8 +21,8 @@ pub(crate) fn merge_parts(row: Row<'_>, out: &mut String) -> Answered {
 }
 
 /// `merge-stop PARTS | CONFIG | PASSES | FILES | STORE | FILES`: the same over a store that passes PASSES calls. It
-/// reports the result. Then for each kind of crash it reports which checkpoint is current, whether these files are
-/// there, and whether those of the store are as before.
+/// reports the result. Then for each kind of crash it reports which checkpoint is current, and whether these files are
+/// there. It also reports whether those of the store are as before.
 pub(crate) fn merge_stopped(row: Row<'_>, out: &mut String) -> Answered {
     for how in [Crash::Old, Crash::New, Crash::Absent, Crash::Junk] {
         let mut said = String::new(row.alloc);

@@ -10,7 +10,7 @@ use ept_mem::{MemShelf, MemStore};
 use ept_part::part;
 
 /// `part OCTANTS | CONFIG | FAILS | FILES | FAILS | STORE | FILES`: how many points and nodes a part has, or why there is
-/// none; of the shelf's sources and of the store the calls of these numbers fail. Then of each file whether the store
+/// none. The calls of these numbers fail, of the shelf's sources and of the store. Then of each file whether the store
 /// has it so.
 pub(crate) fn make(row: Row<'_>, out: &mut String) -> Answered {
     let octants = u8::try_from(count(row.part(0)?)?)?;

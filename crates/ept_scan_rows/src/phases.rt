@@ -28,8 +28,8 @@ use ept_save::{Saved, open};
 use ept_space::{Key, Rules};
 use std::alloc::Global;
 
-/// `phase-load MOST CACHE | FAILS | STORE`: how many nodes are loaded, if there may be MOST nodes and CACHE of them in
-/// memory at most, where the calls of these numbers of each spill file fail.
+/// `phase-load MOST CACHE | FAILS | STORE`: how many nodes are loaded. There may be MOST nodes, CACHE of them in memory
+/// at most. The calls of these numbers of each spill file fail.
 pub(crate) fn load(row: Row<'_>, out: &mut String) -> Answered {
     let (most, cache) = row.part(0)?.split_once(' ').ok_or(Stop::BadLine)?;
     let sizes = [most.parse()?, cache.parse()?];
@@ -76,9 +76,8 @@ fn rules_for(saved: &Saved) -> Rules
 }
 
 /// `phase-save CACHE | FAILS | STORE | LATER | FILES`: loads the octree of the current checkpoint of the store LATER, and
-/// makes it the next checkpoint of the store STORE, with CACHE nodes in memory at most, where the calls of these
-/// numbers of each spill file fail. It reports the result, how many nodes are in memory then, and whether the
-/// store has these files.
+/// makes it the next checkpoint of the store STORE. At most CACHE nodes are in memory. The calls of these numbers of each
+/// spill file fail. It reports the result, how many nodes are in memory then, and whether the store has these files.
 pub(crate) fn save(row: Row<'_>, out: &mut String) -> Answered {
     let mut store = store_of(row, row.part(2)?)?;
     save_over(row, &mut store, out)?;
@@ -99,8 +98,8 @@ fn save_over(row: Row<'_>, store: &mut MemStore, out: &mut String) -> Answered {
     }
 }
 
-// What comes of it, and how many nodes are in memory then; none where a store has no checkpoint that can be opened, or
-// one with tiles of the old layout to save over, or memory ran out.
+// What comes of it, and how many nodes are in memory then. There is no result without memory. Nor is there one if a
+// store has no checkpoint that can be opened, or one with tiles of the old layout.
 fn save_next(
     alloc: Global,
     store: &mut MemStore,
@@ -124,8 +123,8 @@ fn save_next(
     Some((outcome, residents))
 }
 
-// Loads the octree of the current checkpoint of a later store into a new one, and makes it the next checkpoint of a
-// store whose current one has the same keys.
+// Loads the octree of the current checkpoint of a later store into a new one. Makes it the next checkpoint of a store
+// whose current one has the same keys.
 fn save_later<F: SpillFile>(
     alloc: Global,
     store: &mut MemStore,

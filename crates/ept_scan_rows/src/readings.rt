@@ -15,7 +15,7 @@ use ept_scan::{ReadError, reader, scan};
 use std::alloc::Global;
 
 /// What a second reading is to do: how many records were drawn before, how many may be drawn, and the sizes of two
-/// batches. Where there are fewer records, all were drawn.
+/// batches. If there are fewer records, all were drawn.
 #[derive(Clone, Copy)]
 struct Wish {
     drawn: u64,
@@ -24,9 +24,9 @@ struct Wish {
     shown: Shown,
 }
 
-/// `read CONFIG | FILES | NOW | FAILS | DRAWN ALLOWED SIZE SIZE`: the inputs are scanned as they are in FILES and read
-/// as they are NOW, after DRAWN records; of each source the calls of these numbers fail then. It reports what comes
-/// of two batches of these sizes, how many records were drawn in the end, and the points.
+/// `read CONFIG | FILES | NOW | FAILS | DRAWN ALLOWED SIZE SIZE`: scans the inputs as they are in FILES. Reads them as
+/// they are NOW, after DRAWN records; of each source the calls of these numbers fail then. It reports what comes of two
+/// batches of these sizes, how many records were drawn in the end, and the points.
 pub(crate) fn read(row: Row<'_>, out: &mut String) -> Answered {
     read_and_show(row, Shown::Places, out)
 }

@@ -146,8 +146,8 @@ fn show_version(saved: &Saved, out: &mut String) -> Answered {
     show_generation(saved, out)
 }
 
-/// `done STORE`: whether the output is done, first, after the gate is closed, after it is opened and after it is
-/// closed again; each time with the length of the gate.
+/// `done STORE`: whether the output is done: first, after the gate is closed, after it is opened and after it is closed
+/// again. The length of the gate comes with each.
 pub(crate) fn done(row: Row<'_>, out: &mut String) -> Answered {
     let mut store = store_of(row, row.rest)?;
     show_done(row.alloc, &mut store, out)?;

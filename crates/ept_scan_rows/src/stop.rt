@@ -1,11 +1,11 @@
-//! Why a line has no answer.
+//! Why a line has no result.
 
 use ept_point::Memory as NoMemory;
 use hex::FromHexError;
 use std::alloc::{AllocError, AllocFailed};
 use std::num::{ParseIntError, TryFromIntError};
 
-/// Why a line has no answer.
+/// Why a line has no result.
 #[derive(Clone, Copy)]
 pub(crate) enum Stop {
     /// The line is no call that this program knows.
@@ -14,7 +14,7 @@ pub(crate) enum Stop {
     Memory,
 }
 
-/// The answer to a line is appended to a text, unless there is none.
+/// The result of a line is appended to a text, unless there is none.
 pub(crate) type Answered = Result<(), Stop>;
 
 impl From<AllocError> for Stop {

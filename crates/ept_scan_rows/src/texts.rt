@@ -10,7 +10,7 @@ use ept_config::{Kept, SourceCount};
 use ept_meta::{build_json, ept_json, manifest_json, read_build_json};
 use std::alloc::Global;
 
-/// What stands in a buffer before a text is appended.
+/// What a buffer has before a text is appended.
 const FRONT: &[u8] = b"> ";
 
 /// `metadata POINTS EXTENT | CONFIG`: the metadata of an output of POINTS points, with the extent `-` if there is

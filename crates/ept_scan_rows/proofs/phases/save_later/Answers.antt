@@ -26,7 +26,7 @@ regroup false q r s = refl
 regroup true false r s = refl
 regroup true true r s = refl
 
--- keys are the same exactly where each of their fields is
+-- keys are the same if and only if each of their fields is
 same-key : (a b : VoxelKey) → Decides (eqb a.depth b.depth && (eqb a.x b.x && (eqb a.y b.y && eqb a.z b.z))) (a ≡ b)
 same-key a b =
     subst (λ (t : Bool). Decides t (a ≡ b)) (regroup (eqb a.depth b.depth) (eqb a.x b.x) (eqb a.y b.y) (eqb a.z b.z)) (same_key-true a b, same_key-same a b)
