@@ -84,14 +84,22 @@ static ROWS: [Row; 12] = [
 
 type Watched<'a> = WatchedLink<'a, RealLink<Peer<'a>>, Terminal>;
 
-// A link over which these bytes come, and whose lines go to this terminal.
+// A link to this peer, whose lines go to this terminal.
 fn watched<'a>(
     alloc: Global,
     terminal: &'a Terminal,
-    sends: &'a [u8],
+    peer: Peer<'a>,
 ) -> Result<Watched<'a>, AllocError> {
     let log = Log::new(terminal, alloc, String::from_str(alloc, "peer")?);
-    Ok(WatchedLink::new(RealLink::new(Peer { sends }), Some(log)))
+    Ok(WatchedLink::new(RealLink::new(peer), Some(log)))
+}
+
+// A peer that sends these bytes, and takes all that it is sent.
+fn taking(sends: &[u8]) -> Peer<'_> {
+    Peer {
+        sends,
+        takes: usize::MAX,
+    }
 }
 
 // Reads this number of bytes.
@@ -113,7 +121,7 @@ fn write_whole(link: &mut Watched<'_>, bytes: &[u8]) {
 fn each_request_becomes_a_line(rt: HostRuntime) -> Result<(), Fail> {
     let terminal = Terminal::new(rt.alloc(), 1);
     for (sends, responses, how, lines) in ROWS {
-        let mut link = watched(rt.alloc(), &terminal, sends)?;
+        let mut link = watched(rt.alloc(), &terminal, taking(sends))?;
         read_so_many(&mut link, sends.len());
         for response in responses {
             write_whole(&mut link, response);
@@ -128,7 +136,7 @@ fn each_request_becomes_a_line(rt: HostRuntime) -> Result<(), Fail> {
 fn a_line_is_written_before_the_next_read(rt: HostRuntime) -> Result<(), Fail> {
     let terminal = Terminal::new(rt.alloc(), 0);
     let sends = b"GET /a HTTP/1.1\r\n\r\n";
-    let mut link = watched(rt.alloc(), &terminal, sends)?;
+    let mut link = watched(rt.alloc(), &terminal, taking(sends))?;
     read_so_many(&mut link, sends.len());
     write_whole(&mut link, b"HTTP/1.1 404 Not Found\r\n\r\n");
     assert!(rt; terminal.was_written(""));
@@ -137,5 +145,25 @@ fn a_line_is_written_before_the_next_read(rt: HostRuntime) -> Result<(), Fail> {
     let link = link.end("link-fault");
     assert!(rt; terminal.was_written(""));
     assert!(rt; link.faults() == 0);
+    Ok(())
+}
+
+const FIRST: &[u8] = b"HTTP/1.1 404 Not Found\r\n\r\n";
+
+// The peer is gone after the first response, so the second one fails and not the first.
+#[test]
+fn a_failed_write_is_of_the_next_response(rt: HostRuntime) -> Result<(), Fail> {
+    let terminal = Terminal::new(rt.alloc(), 1);
+    let sends = b"GET /a HTTP/1.1\r\n\r\nGET /b HTTP/1.1\r\n\r\n";
+    let peer = Peer {
+        sends,
+        takes: FIRST.len(),
+    };
+    let mut link = watched(rt.alloc(), &terminal, peer)?;
+    read_so_many(&mut link, sends.len());
+    write_whole(&mut link, FIRST);
+    assert!(rt; link.write(b"HTTP/1.1 200 OK\r\n\r\n").is_err());
+    link.end("link-fault");
+    assert!(rt; terminal.was_written("peer /a 404 26 1 sent\npeer /b 200 0 2 link-fault\n"));
     Ok(())
 }

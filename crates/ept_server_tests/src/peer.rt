@@ -1,11 +1,12 @@
 //! The stream of a peer that sends and takes a few bytes at a time.
 
-use std::io::{self, Read, Write};
+use std::io::{self, ErrorKind, Read, Write};
 
-/// A stream whose bytes come three at a time, and which takes two at a time.
+/// A stream whose bytes come three at a time, and which takes two at a time, until it has taken all that it takes.
 #[derive(Drop)]
 pub(crate) struct Peer<'a> {
     pub(crate) sends: &'a [u8],
+    pub(crate) takes: usize,
 }
 
 impl Read for Peer<'_> {
@@ -17,7 +18,12 @@ impl Read for Peer<'_> {
 
 impl Write for Peer<'_> {
     fn write(&mut self, from: &[u8]) -> io::Result<usize> {
-        Ok(from.len().min(2))
+        if self.takes == 0 {
+            return Err(io::Error::from(ErrorKind::BrokenPipe));
+        }
+        let count = from.len().min(2).min(self.takes);
+        self.takes = self.takes.saturating_sub(count);
+        Ok(count)
     }
 
     fn flush(&mut self) -> io::Result<()> {
