@@ -9,9 +9,12 @@ pub(crate) const PAUSE: u64 = 50;
 ///
 /// - There is no room for one more connection: ENOMEM, ENFILE, EMFILE, ENOBUFS.
 /// - A signal came: EINTR.
-/// - The new connection failed: EPROTO, ECONNABORTED, ENONET, ENOPROTOOPT, EOPNOTSUPP, ENETDOWN, ENETUNREACH,
+/// - The new connection failed: EPROTO, ECONNABORTED, ENONET, ENOPROTOOPT, EOPNOTSUPP, ENETDOWN, ENETUNREACH, ETIMEDOUT,
 ///   EHOSTDOWN, EHOSTUNREACH.
-const PASSING: [i32; 14] = [12, 23, 24, 105, 4, 71, 103, 64, 92, 95, 100, 101, 112, 113];
+/// - A firewall refuses the new connection: EPERM.
+const PASSING: [i32; 16] = [
+    12, 23, 24, 105, 4, 71, 103, 64, 92, 95, 100, 101, 110, 112, 113, 1,
+];
 
 /// Whether another connection can be accepted after this error.
 pub(crate) fn is_passing(error: &Error) -> bool {
