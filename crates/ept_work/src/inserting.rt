@@ -21,8 +21,8 @@ ghost use Rattle.ept_work.specs.Working.{first_refusal};
 ghost use Rattle.ept_work.specs.Crews.{MayWork, HaveWorked};
 ghost use Rattle.ept_work.specs.declared.error.WorkError.TheVariants as errors;
 
+use crate::ahead::most_ahead_of;
 use crate::error::WorkError;
-use crate::rounds::round_of;
 use crate::worker::Worker;
 use ept_base::{Gate, Source, SpillFile};
 use ept_forest::Forest;
@@ -100,8 +100,8 @@ pub fn insert_all<
     ensures no_damage { J.told.tells ≡ true → (kept found at : ℕ)
         → result.2 ≢ Err (errors.SpillDamaged kept found at) }
 {
-    let round = round_of(table.rules(), table.cache(), workers);
-    let Ended { seat, result } = work_all(rt, alloc, &table, seat, 0, workers, round, gate);
+    let most_ahead = most_ahead_of(table.rules(), table.cache(), workers);
+    let Ended { seat, result } = work_all(rt, alloc, &table, seat, 0, workers, most_ahead, gate);
     let (forest, reader) = table.close(seat);
     let result = settled(forest.fault(), result);
     (forest, reader, result)
@@ -117,8 +117,8 @@ fn settled(broken: Option<NodeError>, answer: Result<(), WorkError>) -> Result<(
     }
 }
 
-// Lets `workers` workers, numbered from the first on, work at a table in rounds of `round` points. The higher half of
-// them works in a thread of its own.
+// Lets `workers` workers, numbered from the first on, work at a table, each with up to `most_ahead` points ahead. The higher half
+// of them works in a thread of its own.
 fn work_all<F, S, J, G, R>(
     rt: &R,
     alloc: Global,
@@ -126,7 +126,7 @@ fn work_all<F, S, J, G, R>(
     mut seat: Seat<F, S>,
     first: u32,
     workers: u32,
-    round: usize,
+    most_ahead: usize,
     gate: &G,
 ) -> Ended<F, S>
 where
@@ -139,7 +139,7 @@ where
     ensures { HaveWorked F.held J.told S.whole table.now seat result }
 {
     if workers == 1 {
-        return work_alone(rt, alloc, table, seat, first, round, gate);
+        return work_alone(rt, alloc, table, seat, first, most_ahead, gate);
     }
     let higher = workers / 2;
     let lower = workers - higher;
@@ -150,11 +150,11 @@ where
         move || -> Ended<F, S>
             requires { MayWork F.held J.told S.whole table.now seat first lower }
             ensures { HaveWorked F.held J.told S.whole table.entry.now seat result }
-        { work_all(rt, alloc, table, seat, first, lower, round, gate) },
+        { work_all(rt, alloc, table, seat, first, lower, most_ahead, gate) },
         move || -> Ended<F, S>
             requires { MayWork F.held J.told S.whole table.now other next higher }
             ensures { HaveWorked F.held J.told S.whole table.entry.now other result }
-        { work_all(rt, alloc, table, other, next, higher, round, gate) },
+        { work_all(rt, alloc, table, other, next, higher, most_ahead, gate) },
     );
     both(table, left, right)
 }
@@ -166,14 +166,14 @@ fn work_alone<F: SpillFile, S: Source, J: Scan, G: Gate, H: Wait>(
     table: &NodeTable<F, S, J>,
     seat: Seat<F, S>,
     number: u32,
-    round: usize,
+    most_ahead: usize,
     gate: &G,
 ) -> Ended<F, S>
     requires { MayWork F.held J.told S.whole table.now seat number 1 }
     ensures { HaveWorked F.held J.told S.whole table.now seat result }
 {
     let mut worker = Worker::new(alloc, seat, number);
-    worker.round = round;
+    worker.most_ahead = most_ahead;
     let result = worker.work(rt, alloc, table, gate);
     Ended {
         seat: worker.into_seat(),

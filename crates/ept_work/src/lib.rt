@@ -1,11 +1,11 @@
 //! Workers that insert points into the tree of a table of nodes: each has a seat of the table, and carries flights.
 #![tactic(auto)]
 
+mod ahead;
 mod error;
 mod evicting;
 mod inserting;
 mod opening;
-mod rounds;
 mod sending;
 mod taking;
 mod victims;

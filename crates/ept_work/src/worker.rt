@@ -19,8 +19,8 @@ ghost use Rattle.ept_table.specs.Tells.{IsTooMany};
 ghost use Rattle.ept_work.specs.Rest.{IsIdle, IsAtRest};
 ghost use Rattle.ept_work.specs.Drawing.{DrawsBatch, DrawsNone, IsReadCause, answer_of};
 
+use crate::ahead::LEAST_AHEAD;
 use crate::error::WorkError;
-use crate::rounds::LEAST_ROUND;
 use crate::victims::Victims;
 use ept_base::{Source, SpillFile};
 use ept_core::Flight;
@@ -50,13 +50,14 @@ pub struct Worker<F, S> {
     // The nodes that are evicted next, and whether a free permit was ever missing.
     pub(crate) victims: Victims,
     pub(crate) is_short: bool,
-    // How many points a round has once a free permit was missing.
-    pub(crate) round: usize,
+    // How many points it carries before it reads a node back, once a free permit was missing.
+    pub(crate) most_ahead: usize,
+    // Whether a draw has found no points, so no more are left.
+    pub(crate) is_drained: bool,
     // The slot of the node that was visited last, 0 before the first visit. The greatest slot of a node that was
-    // visited. That greatest slot as it was when the round began.
+    // visited.
     pub(crate) here: u32,
     pub(crate) newest: u32,
-    pub(crate) known: u32,
     ghost carries: { (view seat).note.flights ≡ flights.items },
     ghost emptied: { fresh.items ≡ [] },
 }
@@ -79,10 +80,10 @@ impl<F: SpillFile, S: Source> Worker<F, S> {
             fresh: Vec::new(alloc),
             victims: Victims::new(alloc),
             is_short: false,
-            round: LEAST_ROUND,
+            most_ahead: LEAST_AHEAD,
+            is_drained: false,
             here: 0,
             newest: 0,
-            known: 0,
         }
     }
 
@@ -98,10 +99,10 @@ impl<F: SpillFile, S: Source> Worker<F, S> {
             fresh: _fresh,
             victims: _victims,
             is_short: _is_short,
-            round: _round,
+            most_ahead: _most_ahead,
+            is_drained: _is_drained,
             here: _here,
             newest: _newest,
-            known: _known,
         } = self;
         seat
     }
@@ -128,20 +129,24 @@ impl<F: SpillFile, S: Source> Worker<F, S> {
 
     // The flight whose node is visited next. Flights to nodes that no other worker is seen to hold come first: the
     // newest to the node that was visited last. If there is none and nodes have to leave memory, the newest to a node
-    // that need not be read back. Otherwise the newest. If other workers hold all these nodes, it is the newest flight.
+    // that need not be read back, or else the oldest. If none have to leave memory, the newest. If other workers hold
+    // all these nodes, it is the newest flight.
     pub(crate) fn next<J: Scan>(&self, table: &NodeTable<F, S, J>) -> usize
         requires { 0 < vec_len self.now.flights }
         ensures { result < vec_len self.now.flights }
     {
         let here = self.here;
-        let (is_short, known) = (self.is_short, self.known);
+        let (is_short, newest) = (self.is_short, self.newest);
         let flights = self.flights.as_slice();
         flights
             .iter()
             .rposition(|carried| carried.slot == here && is_free(table, here))
             .or_else(|| flights
                 .iter()
-                .rposition(|carried| is_short && is_near(table, carried.slot, known)))
+                .rposition(|carried| is_short && is_near(table, carried.slot, newest)))
+            .or_else(|| flights
+                .iter()
+                .position(|carried| is_short && is_free(table, carried.slot)))
             .or_else(|| flights
                 .iter()
                 .rposition(|carried| is_free(table, carried.slot)))
@@ -212,14 +217,14 @@ fn is_free<F: SpillFile, S: Source, J: Scan>(table: &NodeTable<F, S, J>, slot: u
     slot == 0 || !table.is_held(slot)
 }
 
-// Whether the node of this slot need not be read back. Either it is seen in memory, or it is free and its slot is 0 or
-// greater than `known`.
-fn is_near<F: SpillFile, S: Source, J: Scan>(
+// Whether the node of this slot need not be read back. Either it is seen in memory, or it is free and no worker is known
+// to have visited it: its slot is 0 or greater than `newest`.
+pub(crate) fn is_near<F: SpillFile, S: Source, J: Scan>(
     table: &NodeTable<F, S, J>,
     slot: u32,
-    known: u32,
+    newest: u32,
 ) -> bool {
-    table.is_resident(slot) || (known < slot || slot == 0) && is_free(table, slot)
+    table.is_resident(slot) || (newest < slot || slot == 0) && is_free(table, slot)
 }
 
 // A reader that was read, and the result.

@@ -115,10 +115,9 @@ impl<F: SpillFile, S: Source> Worker<F, S> {
         ensures permits { spare_of (view (seat_of self.new)) ≡ spare_of (view (seat_of self.old)) }
     {
         if self.is_empty() {
-            self.begin_round();
             return self.draw(rt, alloc, table);
         }
-        if self.draws_ahead() || self.would_wait(table) {
+        if self.draws_ahead(table) || self.would_wait(table) {
             return self.draw_meanwhile(rt, alloc, table, gate);
         }
         self.visit(rt, alloc, table, gate)?;
@@ -148,6 +147,7 @@ impl<F: SpillFile, S: Source> Worker<F, S> {
         ensures permits { spare_of (view (seat_of self.new)) ≡ spare_of (view (seat_of self.old)) }
     {
         let is_some = self.draw(rt, alloc, table)?;
+        self.is_drained = !is_some;
         self.merge_last(table);
         if is_some || self.is_empty() {
             return Ok(true);

@@ -1,5 +1,6 @@
-//! Rounds, for when nodes have to leave memory. A worker draws many batches and carries their points down together. So
-//! a node that is read back takes in many points before it is evicted again.
+//! Drawing ahead, for when nodes have to leave memory. A worker draws further batches before it reads a node back, and
+//! carries their points as far down as nodes are in memory. So a node that is read back takes in many points before it
+//! is evicted again.
 
 ghost use Rattle.std.specs.Prelude.{◌≡◌, ◌≤◌, IfOk, IfErr};
 ghost use Rattle.ept_slots.specs.Seating.{view};
@@ -8,18 +9,18 @@ ghost use Rattle.ept_table.specs.Steps.{in_one};
 ghost use Rattle.ept_work.specs.Rest.{IsAtRest};
 ghost use Rattle.ept_work.specs.Working.{Keeps};
 
-use crate::worker::{BATCH, ROOT_SLOT, Worker};
+use crate::worker::{BATCH, Worker, is_near};
 use ept_base::{Source, SpillFile};
 use ept_core::Flight;
 use ept_point::List;
 use ept_space::Rules;
 use ept_table::{Carried, NodeTable, Scan};
 
-/// The least number of points in a round.
-pub(crate) const LEAST_ROUND: usize = 32 * BATCH;
+/// The least number of points that a worker may carry before it reads a node back.
+pub(crate) const LEAST_AHEAD: usize = 32 * BATCH;
 
 // And the greatest.
-const GREATEST_ROUND: u64 = 1 << 20;
+const GREATEST_AHEAD: u64 = 1 << 20;
 
 // The greatest number of points in a merged flight. An arrival reserves room for them in each octant of the node and of
 // what leaves it.
@@ -31,37 +32,35 @@ struct Apart {
     second: Carried,
 }
 
-/// How many points each of `workers` workers draws in a round. Together they draw what `cache` nodes hold, each with a
-/// point in half of the cells of a layer and `threshold` losers.
-pub(crate) fn round_of(rules: &Rules, cache: u32, workers: u32) -> usize
-    ensures { LEAST_ROUND ≤ result }
+/// How many points each of `workers` workers carries before it reads a node back. Together they carry what `cache` nodes
+/// hold, each with a point in half of the cells of a layer and `threshold` losers.
+pub(crate) fn most_ahead_of(rules: &Rules, cache: u32, workers: u32) -> usize
+    ensures { LEAST_AHEAD ≤ result }
 {
     let cells = 4u64.saturating_pow(u32::from(rules.cube.s));
     let points = (cells / 2)
         .saturating_add(rules.threshold)
         .saturating_mul(u64::from(cache));
     let share = points / u64::from(workers.max(1));
-    (share.min(GREATEST_ROUND) as usize).max(LEAST_ROUND)
+    (share.min(GREATEST_AHEAD) as usize).max(LEAST_AHEAD)
 }
 
 impl<F: SpillFile, S: Source> Worker<F, S> {
     ghost use Rattle.ept_table.specs.Table.{IsSeat};
     ghost use Rattle.ept_work.specs.Worker.{seat_of, number_of, knows};
 
-    /// Begins a round: from now on, nodes in greater slots than any visited so far are nodes of this round.
-    pub(crate) fn begin_round(&mut self)
-        ensures seat { seat_of self.new ≡ seat_of self.old }
-        ensures number { number_of self.new ≡ number_of self.old }
-    {
-        self.known = self.newest;
+    /// Whether a further batch is to be drawn before a node is read back: each flight goes to a node that would have to
+    /// be, and there may be more points ahead.
+    pub(crate) fn draws_ahead<J: Scan>(&self, table: &NodeTable<F, S, J>) -> bool {
+        self.is_short && !self.is_drained && !self.has_near(table) && self.ahead() < self.most_ahead
     }
 
-    /// Whether a further batch is to be drawn, and carried down together with those before it.
-    pub(crate) fn draws_ahead(&self) -> bool {
-        let Some(last) = self.flights.last() else {
-            return false;
-        };
-        self.is_short && last.slot == ROOT_SLOT && self.ahead() < self.round
+    // Whether a flight goes to a node that need not be read back.
+    fn has_near<J: Scan>(&self, table: &NodeTable<F, S, J>) -> bool {
+        let newest = self.newest;
+        self.flights
+            .iter()
+            .any(|carried| is_near(table, carried.slot, newest))
     }
 
     // How many points are carried.
